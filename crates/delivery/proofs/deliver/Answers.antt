@@ -17,16 +17,14 @@ use Rattle.admission.specs.Admission.{Judged}
 use Rattle.admission.specs.theory.Door.{rest-refused, all-written}
 use Rattle.delivery.specs.theory.Delivery.{fit-judged, room-there, numbers-outside, copied}
 use Rattle.delivery.proofs.deliver.Goals as goal
-use Rattle.delivery.proofs.deliver.Goals.{In_default}
+use Rattle.delivery.proofs.deliver.Goals.{After-fits, In_default}
 
 -- its size is judged by the rows of the shape
-judged : (c : After-fits2) → let args = c.before.before.before.args in
+judged : (c : After-fits) → let args = c.args in
     let rows = answer_rows (points args.shape.now) args.out.now in
-    Judged (NoneApply rows) rows c.fits2.result
+    Judged (NoneApply rows) rows c.fits.result
 judged c =
-    let start = c.before.before.before in
-    fit-judged _ (c.before.some-outside.ensures ∙ numbers-outside _ start.requires) start.args.out.now
-    (exact c.before.before.count.ensures) c.fits2.ensures
+    fit-judged _ (c.some_outside.ensures ∙ numbers-outside _ c.requires.paired) c.args.out.now (exact c.count-n.ensures) c.fits.ensures
 
 pub returns-in-No : goal.returns-in-No
 returns-in-No c =

@@ -16,7 +16,7 @@ both_chains-requires c =
       c.requires.0,
       c.requires.1,
       record {
-        c.before.before.before.before.before.before.before = c.foremost-bottom.ensures;
+        start = c.foremost-bottom.ensures;
         end = c.foremost-top.ensures;
         apart = sym c.precedes.ensures ∙ c.if-precedes.true;
         first-peak = c.top-i.ensures;

@@ -12,7 +12,7 @@ use Rattle.admission.specs.Admission.{Judged}
 use Rattle.admission.specs.theory.Door.{shapes-refused, rest-refused, all-written}
 use Rattle.delivery.specs.theory.Delivery.{fit-judged, room-there}
 use Rattle.pair_questions.proofs.sum.Goals as goal
-use Rattle.pair_questions.proofs.sum.Goals.{In_default, In_default-fits, Start}
+use Rattle.pair_questions.proofs.sum.Goals.{After-fits, In_default, In_default-fits, Start}
 
 -- the two shapes, and what is asked of them
 abbrev one : Start → Floored
@@ -29,13 +29,13 @@ shapes : (c : In_default) → Same (one (goal.at.In_default c).Start) (other (go
 shapes c = c.admit_pair.ensures.valid c.in_default.is
 
 -- the sum is judged by its size
-judged : (c : After-fits2) → let args = c.before.before.before.before.before.before.args in
+judged : (c : After-fits) → let args = c.args in
     let rows = answer_rows (whole_sum args.a.now args.b.now) args.out.now in
-    Judged (NoneApply rows) rows c.fits2.result
+    Judged (NoneApply rows) rows c.fits.result
 judged c =
-    let args = c.before.before.before.before.before.before.args in
-    fit-judged (whole_sum args.a.now args.b.now) c.before.is-far.ensures args.out.now
-    c.before.before.reckon.ensures c.fits2.ensures
+    let args = c.args in
+    fit-judged (whole_sum args.a.now args.b.now) c.is_far.ensures args.out.now
+    c.reckon-n.ensures c.fits.ensures
 
 pub returns-in-No : goal.returns-in-No
 returns-in-No c =

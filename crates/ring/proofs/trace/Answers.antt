@@ -44,10 +44,10 @@ corners-requires c =
     let ps = points start.args.list.now in
     let front = sym (found (goal.at.corners-requires c).After-distinct-arg-1).front in (
       subst (Placed start.args.list.now) front
-          (record { near = start.pre.0; below = λ j h. under_at (length ps) (ring_places ps) (places-under ps start.pre.1) j h }),
-      subst (λ (xs : List ℕ). 0 < length xs) front (places-some ps start.pre.1),
+          (record { near = start.requires.0; below = λ j h. under_at (length ps) (ring_places ps) (places-under ps start.requires.1) j h }),
+      subst (λ (xs : List ℕ). 0 < length xs) front (places-some ps start.requires.1),
       subst (λ (xs : List ℕ). length xs ≤ length start.args.bent.now) front
-          (omega (arith, places-few ps start.pre.1, start.pre.2.all, start.pre.4)),
+          (omega (arith, places-few ps start.requires.1, start.requires.2.all, start.requires.4)),
     )
 
 pub returns : goal.returns

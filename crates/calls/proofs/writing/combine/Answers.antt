@@ -26,23 +26,23 @@ use Rattle.calls.proofs.writing.combine.Goals.{After-ask-reply, After-room-n}
 
 -- what is asked about, and the shape that is made
 abbrev first : After-room-n → Floored
-first c = let args = c.before.before.args in on args.a.now args.f
+first c = let args = c.args in on args.a.now args.f
 
 abbrev second : After-room-n → Floored
-second c = let args = c.before.before.args in on args.b.now args.g
+second c = let args = c.args in on args.b.now args.g
 
 abbrev shapes : After-room-n → Shapes
 shapes c = two_shapes (first c) (second c)
 
 abbrev shape : After-room-n → List Point
-shape c = let args = c.before.before.args in combined args.merged (points args.a.now) (points args.b.now)
+shape c = let args = c.args in combined args.merged (points args.a.now) (points args.b.now)
 
 -- the part of the buffer that is lent, and the question; it has as much room as the output
 abbrev part : After-room-n → List ℤ
-part c = take c.room.result c.before.before.args.shape.now
+part c = take c.room.result c.args.shape.now
 
 abbrev question : After-room-n → Question
-question c = asked (combined c.before.before.args.merged) (first c) (second c) (part c)
+question c = asked (combined c.args.merged) (first c) (second c) (part c)
 
 lent : (c : After-room-n) → length (part c) ≡ c.room-n.result
 lent c = length-take-le _ c.args.shape.now (omega (arith, c.room-n.ensures.0))

@@ -83,12 +83,9 @@ loop-first-init c = (
 )
 
 -- the walk in the loop, from where it is known to begin
-abbrev start : At-loop-first → Start
-start c = c.before.before.before.before.before.before
-
-looking : (c : At-loop-first) → let args = (start c).args in
-    Looking args.a.now (image args.b.now) (start c).requires.3.count (walk_of c.loop-first.s c.loop-first.t false) (at c.loop-first.back)
-looking c = let p = (start c).requires.3 in c.loop-first.invariant.0 p.count p.below p.moved
+looking : (c : At-loop-first) → let args = c.args in
+    Looking args.a.now (image args.b.now) c.requires.3.count (walk_of c.loop-first.s c.loop-first.t false) (at c.loop-first.back)
+looking c = let p = c.requires.3 in c.loop-first.invariant.0 p.count p.below p.moved
 
 pub order-c-requires : goal.order-c-requires
 order-c-requires c = let inv = c.loop-first.invariant in edges_fit (looking-at (looking c)) inv.1 inv.2
@@ -98,7 +95,7 @@ next-m-requires c = let inv = c.loop-first.invariant in first_next (looking-at (
 
 pub next-n-requires : goal.next-n-requires
 next-n-requires c =
-    let pre = (start c.before.before).requires in
+    let pre = c.requires in
     (pre.1, pre.2, c.loop-first.invariant.2)
 
 pub here-here-requires : goal.here-here-requires
@@ -107,7 +104,7 @@ here-here-requires c =
 
 -- the walk after the step
 steps : (c : After-next-n) (end : Bool) →
-    let args = (start c.before.before.before).args in
+    let args = c.args in
     At args.a.now (image args.b.now) (walk_of c.next-m.result c.next-n.result end)
 steps c end =
     let inv = c.loop-first.invariant in
@@ -115,7 +112,7 @@ steps c end =
     c.next-m.result c.next-n.result c.next-m.ensures.0 c.next-n.ensures.0
 
 advances : (c : After-next-n) →
-    let args = (start c.before.before.before).args in
+    let args = c.args in
     let m = c.next-m.result in
     let n = c.next-n.result in
     walk_of m n (finished (points args.a.now) m.at (points (image args.b.now)) n.at)
@@ -127,14 +124,14 @@ advances c =
     c.next-m.result c.next-n.result c.next-m.ensures.0 c.next-n.ensures.0 refl
 
 first_step : (c : After-next-n) →
-    let args = (start c.before.before.before).args in
+    let args = c.args in
     c.next-m.result.at
     ≡ Places.passed (edges (points args.a.now)) c.loop-first.s.at (edges (points (image args.b.now))) c.loop-first.t.at
 unfolding advanced passed
 first_step c = ap (λ (w : Walk). w.i) (advances c)
 
 second-step : (c : After-next-n) →
-    let args = (start c.before.before.before).args in
+    let args = c.args in
     c.next-n.result.at
     ≡ Places.passed (edges (points (image args.b.now))) c.loop-first.t.at (edges (points args.a.now)) c.loop-first.s.at
 unfolding advanced passed
@@ -146,14 +143,14 @@ here-there-requires c =
 
 -- where it is before and after the step
 leaves : (c : After-here-there) →
-    let args = (start c.before.before.before.before.before).args in
+    let args = c.args in
     at c.here-here.result
     ≡ here (points args.a.now) (points (image args.b.now)) (walk_of c.loop-first.s c.loop-first.t false)
 leaves c =
     c.here-here.ensures ∙ sides-here (looking-at (looking c.before.before.before.before.before)) c.loop-first.invariant.1 c.loop-first.invariant.2
 
 arrives : (c : After-here-there) (end : Bool) →
-    let args = (start c.before.before.before.before.before).args in
+    let args = c.args in
     at c.here-there.result
     ≡ here (points args.a.now) (points (image args.b.now)) (walk_of c.next-m.result c.next-n.result end)
 arrives c end =
@@ -177,7 +174,7 @@ returns-then-rests c =
       record {
         found-is = λ h. subst (Stopped _) (sym is.1)
             (looking-corner (looking c.before.before.before.before.before.before.before.before) refl (advances c.before.before.before.before.before) (leaves c.before.before.before) (arrives c.before.before.before _)
-            (start c.before.before.before.before.before.before.before.before).requires.4 (sym c.rests.ensures ∙ c.if-rests.true));
+            c.requires.4 (sym c.rests.ensures ∙ c.if-rests.true));
         none_is = λ h. absurd (true≢false (sym is.0 ∙ h));
       },
     )
@@ -209,10 +206,9 @@ returns-then-crosses c =
 
 pub overflow_add-m : goal.overflow_add-m
 overflow_add-m c =
-    let begin = start c.before.before.before.before.before.before.before.before.before.before.before in
     let first = c.next-m.ensures.1.at_in in
     let second = c.next-n.ensures.1.at_in in
-    omega (arith, image-few _ _ begin.pre.0 begin.pre.1)
+    omega (arith, image-few _ _ c.requires.0 c.requires.1)
 
 -- neither place at hand passes
 fails : (c : After-struct_known-in-loop-first-2-1) →
@@ -233,20 +229,20 @@ returns-then-m-n c =
     let over = all-passed _ _ _ _ c.next-m.ensures.1.at_in c.next-n.ensures.1.at_in
     (c.if-m-n.true ∙ image-sides c.side_at-s.ensures.1
     c.side_at-t.ensures.1) in (
-      subst (Small 4194304) (sym is.1) (small-wide (here-near (placed (start c.before.before.before.before.before.before.before.before.before.before.before.before.before)) (first-here c.before.before.before.before.before.before.before.before.before.before.before.before.before.before))),
+      subst (Small 4194304) (sym is.1) (small-wide (here-near (placed c.before.before.before.before.before.before.before.before.before.before.before.before.before.before.before.before.before.before.before) (first-here c.before.before.before.before.before.before.before.before.before.before.before.before.before.before))),
       record {
         found-is = λ h. absurd (false≢true (sym is.0 ∙ h));
         none_is = λ h k below moved. subst (Nowhere _ k) (sym is.1)
             (looking-end (c.loop-first.invariant.0 k below moved) refl (advances c.before.before.before.before.before.before.before.before.before.before) (leaves c.before.before.before.before.before.before.before.before) (arrives c.before.before.before.before.before.before.before.before _) (fails c.before.before).0
             (fails c.before.before).1 over
-            (first-here c.before.before.before.before.before.before.before.before.before.before.before.before.before.before ∙ ap (here _ _) moved ∙ corner-here _ _ (starts (start c.before.before.before.before.before.before.before.before.before.before.before.before.before)) k below));
+            (first-here c.before.before.before.before.before.before.before.before.before.before.before.before.before.before ∙ ap (here _ _) moved ∙ corner-here _ _ (starts c.before.before.before.before.before.before.before.before.before.before.before.before.before.before.before.before.before.before.before) k below));
       },
     )
 
 pub loop-first-smaller : goal.loop-first-smaller
 loop-first-smaller c =
     let inv = c.loop-first.invariant in
-    let args = (start c.before.before.before.before.before.before.before.before.before.before.before.before).args in
+    let args = c.args in
     let E = edges (points args.a.now) in
     let F = edges (points (image args.b.now)) in
     edges-less E F _ _ (first_step c.before.before.before.before.before.before.before.before.before) (second-step c.before.before.before.before.before.before.before.before.before) (λ h k. c.if-m-n.false (omega (
@@ -261,7 +257,7 @@ loop-first-smaller c =
 
 pub loop-first-preserved : goal.loop-first-preserved
 loop-first-preserved c =
-    let args = (start c.before.before.before.before.before.before.before.before.before.before.before.before).args in
+    let args = c.args in
     let on = some_left _ _ c.next-m.result.at c.next-n.result.at
     (λ e. c.if-m-n.false (e ∙ sym (image-sides c.side_at-s.ensures.1
     c.side_at-t.ensures.1))) in (

@@ -20,7 +20,7 @@ use Rattle.journal.specs.theory.Stepping.{here-valid}
 use Rattle.gaps.specs.Gap.{grown_of}
 use Rattle.gaps.specs.theory.Read.{valid-fits, written-length, grown_of-few}
 use Rattle.gaps.proofs.growing.grow_at.Goals as goal
-use Rattle.gaps.proofs.growing.grow_at.Goals.{After-read_at-n, After-write}
+use Rattle.gaps.proofs.growing.grow_at.Goals.{After-read_at-n, After-top, After-write}
 
 -- the numbers that were read are in the buffer
 fits : (c : After-read_at-n) → c.read_at-n.result ≤ length c.read_at-n.new.shape
@@ -39,13 +39,11 @@ pub top-requires : goal.top-requires
 top-requires c = c.requires.1.shape.some
 
 -- the grown shape has room
-room : (c : After-write-arg2) → let start = c.before.before.before.before.before.before.before in
-    2 * length (grown_of (points start.args.cart.now) (record_at start.args.log.now start.args.p))
-    ≤ length start.args.out.now
+room : (c : After-top) →
+    2 * length (grown_of (points c.args.cart.now) (record_at c.args.log.now c.args.p)) ≤ length c.args.out.now
 room c =
-    let start = c.before.before.before.before.before.before.before in
-    let pre = start.requires in
-    let few = grown_of-few (points start.args.cart.now) _ (here-valid pre.0) pre.1.shape.some pre.4 in
+    let pre = c.requires in
+    let few = grown_of-few (points c.args.cart.now) _ (here-valid pre.0) pre.1.shape.some pre.4 in
     omega (arith, few, pre.3)
 
 pub write-requires : goal.write-requires
@@ -57,7 +55,7 @@ write-requires c =
       pre.1,
       c.top.ensures,
       subst (λ (l : List ℤ). 2 * length (shape_of (differences (points l) (points c.args.cart.now)))
-          ≤ length c.args.out.now) read (room c),
+          ≤ length c.args.out.now) read (room (goal.at.write-requires c).After-top),
     )
 
 -- the output is as long as it was

@@ -89,7 +89,7 @@ found c =
 pub nearer-requires : goal.nearer-requires
 nearer-requires c =
     let start = start_of (goal.at.nearer-requires c).Else-is_passed in
-    ((found c).sized, told-sized _ _ start.args.best start.pre.6)
+    ((found c).sized, told-sized _ _ start.args.best start.requires.6)
 
 pub returns : goal.returns
 returns c =
@@ -97,7 +97,7 @@ returns c =
     let args = start.args in
     let A = points args.cart.now in
     let pairs = ap (λ (t : Bool). cond t (pair_at args.log.now args.p args.q ∷ []) []) (sym (is-on (goal.at.returns c).Else-not-is_on)) in
-    let passed = passed-tried A args.log.now args.p args.q c.between.result args.best start.pre.6
+    let passed = passed-tried A args.log.now args.p args.q c.between.result args.best start.requires.6
     (found (goal.at.returns c).After-between) in (
       subst (λ (r : Best). Passed A args.log.now (tried_at args.floor args.log.now args.p args.q) args.best r)
           (sym c.nearer.ensures) (subst (λ (ps : List Pair). Passed A args.log.now ps args.best

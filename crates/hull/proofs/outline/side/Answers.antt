@@ -72,5 +72,5 @@ pub returns : goal.returns
 returns c =
     let args = c.args in
     sided c.loop-i.i c.loop-i.invariant.1 (omega (arith, c.loop-i-test.false, c.loop-i.invariant.0))
-    (subst (λ p. Settled (points c.loop-i.buf) c.loop-i.auto p c.settle.result) c.route_at-2.ensures
+    (subst (λ p. Settled (points c.loop-i.buf) c.loop-i.kept p c.settle.result) c.route_at-2.ensures
     c.settle.ensures)

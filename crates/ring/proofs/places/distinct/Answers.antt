@@ -59,7 +59,7 @@ pub less_closing-requires : goal.less_closing-requires
 less_closing-requires c =
     let start = begin (goal.at.less_closing-requires c).After-gather-count in
     let b = length (points start.args.list.now) in (
-      omega (arith, start.pre.0, start.pre.1),
+      omega (arith, start.requires.0, start.requires.1),
       subst (λ (i : ℕ). i < b) (sym (last-is (goal.at.less_closing-requires c).After-gather-count)) (under_at b (all (goal.at.less_closing-requires c).After-gather-count) (under (goal.at.less_closing-requires c).After-gather-count) (length (all (goal.at.less_closing-requires c).After-gather-count) - 1) (omega arith)),
     )
 
@@ -78,5 +78,5 @@ returns c =
     let count = c.less_closing.ensures ∙ ap (λ (t : Bool). cond t (k - 1) k) test in
     subst (λ (r : ℕ). Held (distinct (f (goal.at.returns c).After-gather-count) (walked n s n)) r l) (sym count)
     (subst (λ (w : List ℕ). Held (distinct (f (goal.at.returns c).After-gather-count) w) (cond (closed (f (goal.at.returns c).After-gather-count) xs) (k - 1) k) l)
-    (sym (walked_whole n s (omega (arith, start.pre.1))))
+    (sym (walked_whole n s (omega (arith, start.requires.1))))
     (held-less (closed (f (goal.at.returns c).After-gather-count) xs) c.gather-count.ensures))

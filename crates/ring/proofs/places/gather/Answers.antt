@@ -23,7 +23,7 @@ total c =
     (walked c.args.n (next c.args.n c.args.start) (c.args.n - 1))
 
 -- the buffer has room for one more
-room : (c : In-loop-i) → c.loop-i.count < length c.loop-i.auto
+room : (c : In-loop-i) → c.loop-i.count < length c.loop-i.kept
 room c =
     omega (arith, c.requires.2, c.loop-i.invariant.2, c.loop-i.invariant.4, length-set c.args.kept.now 0 c.args.start)
 
@@ -63,7 +63,7 @@ loop-i-preserved c =
     ∙ ap (differing f from) (walked_step n to c.loop-i.i (omega arith))
     ∙ ap (λ (b : Bool). optional (not b) to ++ rest) (sym c.same_at.ensures) in (
       coming-keep (not c.same_at.result) to (subst (λ (r : List ℕ). Coming (total (goal.at.loop-i-preserved c).Start) r c.loop-i.count
-          c.loop-i.auto) coming c.loop-i.invariant.0)
+          c.loop-i.kept) coming c.loop-i.invariant.0)
           c.keep-count.ensures.0 (omega (arith, c.keep-count.ensures.1, c.keep-count.ensures.2, room (goal.at.loop-i-preserved c).In-loop-i)),
       c.next-to.ensures.upper_bound,
       omega (arith, c.keep-count.ensures.1, c.loop-i.invariant.2),
@@ -82,7 +82,7 @@ returns c =
     let f = corner (points c.args.list.now) in
     let from = c.loop-i.from in
     coming-end (subst (λ (k : ℕ). Coming (total c.before.before.before) (differing f from (walked n (next n from) k)) c.loop-i.count
-    c.loop-i.auto) over
+    c.loop-i.kept) over
     c.loop-i.invariant.0)
 
 pub overflow_add-i : goal.overflow_add-i

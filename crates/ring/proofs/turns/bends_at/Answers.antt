@@ -39,10 +39,10 @@ straight_at-requires c =
     let n = all c in
     let j = start.args.j in
     let b = length (points start.args.list.now) in (
-      subst (λ (i : ℕ). i < b) (sym (is-before c)) (sound c (previous n j) (previous-below n j start.pre.1)),
-      subst (λ (i : ℕ). i < b) (sym c.place.ensures) (sound c j start.pre.1),
-      subst (λ (i : ℕ). i < b) (sym (is-after c)) (sound c (next n j) (next-below n j start.pre.1)),
-      start.pre.0.near,
+      subst (λ (i : ℕ). i < b) (sym (is-before c)) (sound c (previous n j) (previous-below n j start.requires.1)),
+      subst (λ (i : ℕ). i < b) (sym c.place.ensures) (sound c j start.requires.1),
+      subst (λ (i : ℕ). i < b) (sym (is-after c)) (sound c (next n j) (next-below n j start.requires.1)),
+      start.requires.0.near,
     )
 
 pub returns : goal.returns

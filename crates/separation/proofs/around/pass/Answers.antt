@@ -145,7 +145,7 @@ pub overflow_add-count-in-loop-m : goal.overflow_add-count-in-loop-m
 overflow_add-count-in-loop-m c =
     let begin = start c.before.before.before.before.before.before.before.before in
     let fewer = passing-count c.loop-m.invariant.0 refl in
-    let count = image-count begin.args.b.now begin.pre.1 in
+    let count = image-count begin.args.b.now begin.requires.1 in
     omega (arith, points-length begin.args.a.now, points-length begin.args.b.now)
 
 pub overflow_add-m : goal.overflow_add-m

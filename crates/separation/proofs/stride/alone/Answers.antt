@@ -28,7 +28,7 @@ start c = c.before.before.before
 pub overflow_add-n : goal.overflow_add-n
 overflow_add-n c =
     let begin = start c.before in
-    omega (arith, c.loop-n.invariant.second-side.at_in, image-few _ _ begin.pre.0 begin.pre.1, begin.good.0, begin.good.1.0)
+    omega (arith, c.loop-n.invariant.second-side.at_in, image-few _ _ begin.requires.0 begin.requires.1, begin.well_formed.0, begin.well_formed.1.0)
 
 pub here-requires : goal.here-requires
 here-requires c = let p = c.loop-n.invariant in corners-fit (strode-at p) p.first-side p.second-side
