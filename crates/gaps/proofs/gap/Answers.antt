@@ -10,7 +10,7 @@ use Rattle.gaps.specs.Search.{Found}
 use Rattle.gaps.specs.theory.Steps.{walk_start}
 use Rattle.gaps.specs.theory.Passed.{answer-nothing, answer-found, answer-numbers}
 use Rattle.gaps.proofs.gap.Goals as goal
-use Rattle.gaps.proofs.gap.Goals.{In-Pair-2}
+use Rattle.gaps.proofs.gap.Goals.{In-Pair}
 
 -- a buffer holds the numbers of any shape
 full : 2048 ≡ 2 * max_corners
@@ -27,16 +27,16 @@ returns-in_default c =
     answer-nothing _ _ _ c.narrowest.result c.narrowest.ensures c.in_default.is
 
 -- the pair that was found
-found : (c : In-Pair-2) → let args = c.args in
+found : (c : In-Pair) → let args = c.args in
     Found (points args.cart.now) args.log.now c.in-Pair.first c.in-Pair.second c.in-Pair.spacing
 found c =
     answer-found _ _ _ c.narrowest.result c.narrowest.ensures _ _ _ c.in-Pair.is
 
 pub head_at-requires : goal.head_at-requires
-head_at-requires c = (found (goal.at.head_at-requires c).In-Pair-2).first-sound
+head_at-requires c = (found (goal.at.head_at-requires c).In-Pair).first-sound
 
 pub head_at-requires-2 : goal.head_at-requires-2
-head_at-requires-2 c = (found (goal.at.head_at-requires-2 c).In-Pair-2).second-sound
+head_at-requires-2 c = (found (goal.at.head_at-requires-2 c).In-Pair).second-sound
 
 pub returns : goal.returns
 returns c =

@@ -11,19 +11,18 @@ use Rattle.hull.specs.theory.Written.{front-one}
 use Rattle.hull.proofs.merge.Goals as goal
 
 pub both_chains-requires : goal.both_chains-requires
-both_chains-requires c =
-    (
-      c.requires.0,
-      c.requires.1,
-      record {
-        start = c.foremost-bottom.ensures;
-        end = c.foremost-top.ensures;
-        apart = sym c.precedes.ensures ∙ c.if-precedes.true;
-        first-peak = c.top-i.ensures;
-        second-peak = c.top-j.ensures;
-      },
-      c.requires.2,
-    )
+both_chains-requires c = (
+  c.requires.0,
+  c.requires.1,
+  record {
+    start = c.foremost-bottom.ensures;
+    end = c.foremost-top.ensures;
+    apart = sym c.precedes.ensures ∙ c.if-precedes.true;
+    first-peak = c.top-i.ensures;
+    second-peak = c.top-j.ensures;
+  },
+  c.requires.2,
+)
 
 pub put-requires : goal.put-requires
 put-requires c =

@@ -75,18 +75,18 @@ slice_bounds-shape-end-2 c =
 
 pub is_passed-requires : goal.is_passed-requires
 is_passed-requires c =
-    let pre = (start (goal.at.is_passed-requires c).After-decode).requires in
+    let pre = c.requires in
     (extends-bounded _ pre.1 pre.4, decoded-valid (goal.at.is_passed-requires c).After-decode, pre.2)
 
 -- the record is asked for
-asked : (c : After-buffer-1) → let args = (start c).args in
+asked : (c : After-buffer-1) → let args = c.args in
     let head = (at_head c).head_at.result in (eqb head.floor args.floor && not (eqb head.name args.but)) ≡ true
 asked c = sym c.is_asked.ensures ∙ c.if-not-is_asked.false
 
 pub returns-then-is_passed : goal.returns-then-is_passed
 returns-then-is_passed c =
-    let args = (start (goal.at.returns-then-is_passed c).After-decode).args in
-    let pre = (start (goal.at.returns-then-is_passed c).After-decode).requires in
+    let args = c.args in
+    let pre = c.requires in
     let far = c.is_passed.ensures c.if-is_passed.true (points args.list.now) pre.1.shape pre.4 in (
       onward-passed pre.0 (stated-here (goal.at.returns-then-is_passed c).After-decode-arg-1) args.floor args.but (points args.list.now)
           args.best pre.1.shape (asked (goal.at.returns-then-is_passed c).After-buffer-1)
@@ -95,11 +95,11 @@ returns-then-is_passed c =
     )
 
 pub between-requires : goal.between-requires
-between-requires c = ((start (goal.at.between-requires c).After-decode).requires.1, decoded-valid (goal.at.between-requires c).After-decode)
+between-requires c = (c.requires.1, decoded-valid (goal.at.between-requires c).After-decode)
 
 pub kept-requires : goal.kept-requires
 kept-requires c =
-    let pre = (start (goal.at.kept-requires c).After-decode).requires in (
+    let pre = c.requires in (
       pre.0,
       spacing-sized _ _ pre.1.shape (decoded-valid (goal.at.kept-requires c).After-decode).shape c.between.result c.between.ensures,
       pre.2,
@@ -107,8 +107,8 @@ kept-requires c =
 
 pub returns : goal.returns
 returns c =
-    let args = (start (goal.at.returns c).After-decode).args in
-    let pre = (start (goal.at.returns c).After-decode).requires in
+    let args = c.args in
+    let pre = c.requires in
     let spaced = c.between.ensures ∙ ap (λ l. clearance_numbers (points args.list.now) (points l)) (decoded (goal.at.returns c).After-decode) in (
       subst (Onward (points args.list.now) args.floor args.but args.log.now args.p args.best)
           (sym c.kept.ensures)

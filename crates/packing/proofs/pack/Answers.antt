@@ -4,8 +4,8 @@ use borrow.Author.Rules.{rules}
 use Rattle.journal.specs.theory.Marks.{marked_empty}
 use Rattle.packing.proofs.pack.Goals as goal
 
-pub slice_bounds-mark-end : goal.mark-requires
-slice_bounds-mark-end c κs =
+pub mark-requires : goal.mark-requires
+mark-requires c =
     (c.requires.0, c.serves.ensures c.if-serves.true, refl)
 
 pub store-requires-2 : goal.store-requires-2

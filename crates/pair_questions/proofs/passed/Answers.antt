@@ -20,8 +20,8 @@ returns-in-Blocked c = told c.args.floor c.in-Blocked.is
 
 pub returns-in-Free : goal.returns-in-Free
 returns-in-Free c =
-    let u = result-is w32 {x = c.in-Free.u} c.known_told-1.given.0.1 refl in
-    let v = result-is w32 {x = c.in-Free.v} c.known_told-1.given.1.0.1 refl in
-    let low = result-is w64 {x = c.in-Free.low} c.known_told-1.given.1.1.0.1 refl in
-    let high = result-is w64 {x = c.found-1.given.0.1.1.1.0} c.known_told-1.given.1.1.1.0.1 refl in
+    let u = result-is w32 {x = c.in-Free.u} c.in-Free.known_told-1-own.given.0.1 refl in
+    let v = result-is w32 {x = c.in-Free.v} c.in-Free.known_told-1-own.given.1.0.1 refl in
+    let low = result-is w64 {x = c.in-Free.low} c.in-Free.known_told-1-own.given.1.1.0.1 refl in
+    let high = result-is w64 {x = c.in-Free.high} c.in-Free.known_told-1-own.given.1.1.1.0.1 refl in
     rw (u, v, low, high) (told c.args.floor c.in-Free.is)

@@ -13,9 +13,9 @@ use Rattle.reply.proofs.of_furthest.Goals as goal
 
 pub returns-in-At : goal.returns-in-At
 returns-in-At c =
-    let value = kept-bits w64 c.in-At.value c.known_told-1.given.1.1.0.1 c.bits.ensures in
+    let value = kept-bits w64 c.in-At.value c.in-At.known_told-1-own.given.1.1.0.1 c.bits.ensures in
     c.answered4.ensures
-    ∙ ap (λ (n : ℕ). crossed (answered (pos c.in-At.first ∷ pos c.in-At.last ∷ pos n ∷ pos c.answer-1.given.0.1.1.1.0 ∷ []))) value
+    ∙ ap (λ (n : ℕ). crossed (answered (pos c.in-At.first ∷ pos c.in-At.last ∷ pos n ∷ pos c.in-At.floor ∷ []))) value
     ∙ told of_furthest c.in-At.is
 
 pub returns-in-No : goal.returns-in-No

@@ -16,8 +16,7 @@ use Rattle.reply.proofs.of_gap.Goals.{After-named}
 -- the second name, the distance and the floor
 abbrev named-numbers : After-named → List ℤ
 named-numbers c =
-    let parts = c.before.before.answer2.given.0.1 in
-    pos parts.0 ∷ values_of parts.1.0 ++ (pos parts.1.1.0 ∷ [])
+    pos c.in-Apart.other ∷ values_of c.in-Apart.distance ++ (pos c.in-Apart.floor ∷ [])
 
 -- an array of three
 three : (c : After-named) → length c.named.result.carried ≡ 3
@@ -27,7 +26,7 @@ pub preceded-requires : goal.preceded-requires
 preceded-requires c =
     let r = c.named.result in
     let all = counted r.number r.count r.carried r.values (three c) (named-numbers c) c.named.ensures in
-    omega (arith, all, distance-room c.in-Apart.distance c.answer-in-Apart-1.given.0.1.1.1.0)
+    omega (arith, all, distance-room c.in-Apart.distance c.in-Apart.floor)
 
 pub returns-in-Meets : goal.returns-in-Meets
 returns-in-Meets c = c.answered4.ensures ∙ told of_gap c.in-Meets.is

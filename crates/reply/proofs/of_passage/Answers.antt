@@ -13,15 +13,15 @@ use Rattle.reply.proofs.of_passage.Goals as goal
 
 pub returns-in-Free : goal.returns-in-Free
 returns-in-Free c =
-    let u = kept-bits w32 c.in-Free.u c.known_told-in-Free-1.given.0.1 c.extended.ensures in
-    let v = kept-bits w32 c.in-Free.v c.known_told-in-Free-1.given.1.0.1 c.extended-in-Free.ensures in
-    let low = kept-bits w64 c.in-Free.low c.known_told-in-Free-1.given.1.1.0.1 c.bits.ensures in
-    let high = kept-bits w64 c.answer-in-Free-1.given.0.1.1.1.0 c.known_told-in-Free-1.given.1.1.1.0.1 c.bits-in-Free.ensures in
+    let u = kept-bits w32 c.in-Free.u c.in-Free.known_told-in-Free-1-own.given.0.1 c.extended.ensures in
+    let v = kept-bits w32 c.in-Free.v c.in-Free.known_told-in-Free-1-own.given.1.0.1 c.extended-in-Free.ensures in
+    let low = kept-bits w64 c.in-Free.low c.in-Free.known_told-in-Free-1-own.given.1.1.0.1 c.bits.ensures in
+    let high = kept-bits w64 c.in-Free.high c.in-Free.known_told-in-Free-1-own.given.1.1.1.0.1 c.bits-in-Free.ensures in
     c.answered7.ensures
     ∙ ap₂ (λ (m n : ℕ). crossed (answered (pos 1 ∷ pos m ∷ pos n ∷ pos c.bits.result ∷ pos c.bits-in-Free.result
-    ∷ pos c.answer-in-Free-1.given.0.1.1.1.1.0 ∷ pos c.answer-in-Free-1.given.0.1.1.1.1.1.0 ∷ []))) u v
+    ∷ pos c.in-Free.width ∷ pos c.in-Free.floor ∷ []))) u v
     ∙ ap₂ (λ (m n : ℕ). crossed (answered (pos 1 ∷ pos (bits c.in-Free.u) ∷ pos (bits c.in-Free.v) ∷ pos m ∷ pos n
-    ∷ pos c.answer-in-Free-1.given.0.1.1.1.1.0 ∷ pos c.answer-in-Free-1.given.0.1.1.1.1.1.0 ∷ []))) low high
+    ∷ pos c.in-Free.width ∷ pos c.in-Free.floor ∷ []))) low high
     ∙ told of_passage c.in-Free.is
 
 pub returns-in-Blocked : goal.returns-in-Blocked

@@ -13,8 +13,8 @@ use Rattle.reply.proofs.of_separator.Goals as goal
 
 pub returns-in-Direction : goal.returns-in-Direction
 returns-in-Direction c =
-    let u = kept-bits w32 c.in-Direction.u c.known_told-1.given.0.1 c.extended.ensures in
-    let v = kept-bits w32 c.in-Direction.v c.known_told-1.given.1.0.1 c.extended-in-Direction.ensures in
+    let u = kept-bits w32 c.in-Direction.u c.in-Direction.known_told-1-own.given.0.1 c.extended.ensures in
+    let v = kept-bits w32 c.in-Direction.v c.in-Direction.known_told-1-own.given.1.0.1 c.extended-in-Direction.ensures in
     c.answered4.ensures ∙ ap₂ (λ (m n : ℕ). crossed (answered (pos 1 ∷ pos m ∷ pos n ∷ pos c.in-Direction.floor ∷ []))) u v
     ∙ told of_separator c.in-Direction.is
 

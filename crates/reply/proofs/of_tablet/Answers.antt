@@ -13,8 +13,8 @@ use Rattle.reply.proofs.of_tablet.Goals as goal
 
 pub returns-in-Corner : goal.returns-in-Corner
 returns-in-Corner c =
-    let x = kept-bits w32 c.in-Corner.x c.known_told-1.given.1.0.1 c.extended.ensures in
-    let y = kept-bits w32 c.in-Corner.y c.known_told-1.given.1.1.0.1 c.extended-in-Corner.ensures in
+    let x = kept-bits w32 c.in-Corner.x c.in-Corner.known_told-1-own.given.1.0.1 c.extended.ensures in
+    let y = kept-bits w32 c.in-Corner.y c.in-Corner.known_told-1-own.given.1.1.0.1 c.extended-in-Corner.ensures in
     c.answered2.ensures ∙ ap₂ (λ (m n : ℕ). crossed (answered (pos m ∷ pos n ∷ []))) x y ∙ told (λ x. (of_tablet x).reply) c.in-Corner.is
 
 pub returns-in-No : goal.returns-in-No

@@ -40,19 +40,18 @@ slice_bounds-corners-end-2 c =
 
 pub corners-requires : goal.corners-requires
 corners-requires c =
-    let start = begin (goal.at.corners-requires c).After-distinct-arg-1 in
-    let ps = points start.args.list.now in
+    let ps = points c.args.list.now in
     let front = sym (found (goal.at.corners-requires c).After-distinct-arg-1).front in (
-      subst (Placed start.args.list.now) front
-          (record { near = start.requires.0; below = λ j h. under_at (length ps) (ring_places ps) (places-under ps start.requires.1) j h }),
-      subst (λ (xs : List ℕ). 0 < length xs) front (places-some ps start.requires.1),
-      subst (λ (xs : List ℕ). length xs ≤ length start.args.bent.now) front
-          (omega (arith, places-few ps start.requires.1, start.requires.2.all, start.requires.4)),
+      subst (Placed c.args.list.now) front
+          (record { near = c.requires.0; below = λ j h. under_at (length ps) (ring_places ps) (places-under ps c.requires.1) j h }),
+      subst (λ (xs : List ℕ). 0 < length xs) front (places-some ps c.requires.1),
+      subst (λ (xs : List ℕ). length xs ≤ length c.args.bent.now) front
+          (omega (arith, places-few ps c.requires.1, c.requires.2.all, c.requires.4)),
     )
 
 pub returns : goal.returns
 returns c =
-    let ps = points (begin (goal.at.returns c).After-distinct-arg-1).args.list.now in
+    let ps = points c.args.list.now in
     let f = corner ps in
     subst (λ (xs : List ℕ). Held xs c.corners.result c.corners.new.bent) (corners-are ps)
     (subst (λ (xs : List ℕ). Held (bends f (sensed f xs)) c.corners.result c.corners.new.bent)

@@ -17,5 +17,5 @@ primitive-e-requires c = (small-wide (good-small _ c.requires), direction-some _
 pub returns : goal.returns
 returns c =
     let told = ap (λ (p : Point). point (to_z w32 (of_z w32 p.x)) (to_z w32 (of_z w32 p.y))) c.primitive-e.ensures
-    ∙ point-read (let (small, some) = primitive-e-requires c.before.before _ in primitive-small (2 ^ 22) _ small some) in
+    ∙ point-read (let (small, some) = primitive-e-requires c.before.before in primitive-small (2 ^ 22) _ small some) in
     ap (λ (p : Point). Direction p.x p.y) told

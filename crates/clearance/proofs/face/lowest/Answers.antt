@@ -32,7 +32,7 @@ last-is : (c : After-face_towards-face) → let args = c.args in
     c.face_towards-face.result.last ≡ face_last (opposite (at args.n)) (points args.list.now)
 last-is c =
     let ps = points c.args.list.now in
-    c.face_towards-face.ensures.last_value.0 ∙ ap (λ (d : Point). face_last d ps) c.against.ensures
+    c.face_towards-face.ensures.last_value ∙ ap (λ (d : Point). face_last d ps) c.against.ensures
 
 pub returns-then-face : goal.returns-then-face
 returns-then-face c =

@@ -45,8 +45,8 @@ step-requires c =
 
 steps-small : (c : After-step) → Small 4194304 (at c.step-edge.result) × Small 4194304 (at c.step.result)
 steps-small c =
-    let edge = step-edge-requires c.before.before.before _ in
-    let other = step-requires c.before _ in
+    let edge = step-edge-requires c.before.before.before in
+    let other = step-requires c.before in
     (small-step edge.0 edge.1 c.step-edge.ensures, small-step other.0 other.1 c.step.ensures)
 
 pub cross-requires : goal.cross-requires

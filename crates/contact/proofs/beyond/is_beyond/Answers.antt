@@ -45,7 +45,7 @@ along : (c : After-step-along) → Small (2 ^ 21) (at c.step-along.result)
 along c = let places = (start_of c.before).requires.2 in way-small places.from-near places.to-near c.step-along.ensures
 
 read : {z : ℤ} → Within (2 ^ 21) z → Within (2 ^ 21) (to_z w32 (of_z w32 z))
-read {z} h = subst (λ (x : ℤ). Within (2 ^ 21) x) (sym (to_z-of_z {z = z} (within-fits tt h))) h
+read {z} h = subst (λ (x : ℤ). Within (2 ^ 21) x) (sym (to_z-of_z {w = w32} {z = z} (within-fits tt h))) h
 
 read_back : {z : ℤ} → Within (2 ^ 21) z → Within (2 ^ 21) (to_z w32 (of_z w32 (pos 0 -ℤ to_z w32 (of_z w32 z))))
 read_back h = subst (λ (x : ℤ). Within (2 ^ 21) x) (sym (machine-is (search (machine, bounded) depth 40) tt ∙ +ℤ_idl _)) (within-neg h)

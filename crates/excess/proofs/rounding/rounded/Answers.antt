@@ -23,7 +23,7 @@ returns-in-Corners c =
 pub returns-in-OnSecond : goal.returns-in-OnSecond
 returns-in-OnSecond c =
     let corner = c.args.corner in
-    ap (λ (u : ℕ). pos 2 ∷ pos corner ∷ pos c.in-OnSecond.edge ∷ pos c.in-OnSecond.turn ∷ pos c.found-in-OnSecond-1.given.0.1.1.1.0 ∷ pos u ∷ [])
+    ap (λ (u : ℕ). pos 2 ∷ pos corner ∷ pos c.in-OnSecond.edge ∷ pos c.in-OnSecond.turn ∷ pos c.in-OnSecond.squared ∷ pos u ∷ [])
     c.above-in-OnSecond.ensures ∙ ap (λ (d : Distance). up_numbers corner d) (sym c.in-OnSecond.is)
 
 pub returns-in-OnFirst : goal.returns-in-OnFirst

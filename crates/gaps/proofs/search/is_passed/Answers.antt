@@ -24,14 +24,11 @@ returns-then-head_at-floor c =
 pub returns-in_default : goal.returns-in_default
 returns-in_default c = ((λ k. absurd (true≢false (sym k))), c.requires.2)
 
-abbrev start : After-read_at-n → Start
-start c = c.before.before.before.before.before.before.before.before.before
-
 -- the numbers that were read are in the buffer
 fits : (c : After-read_at-n) → c.read_at-n.result ≤ length c.read_at-n.new.shape
 fits c =
     let read = c.read_at-n.ensures in
-    omega (arith, read.1, read.2, valid-fits _ (here-valid (start c).requires.0))
+    omega (arith, read.1, read.2, valid-fits _ (here-valid c.requires.0))
 
 pub slice_bounds-is_far-end : goal.slice_bounds-is_far-end
 slice_bounds-is_far-end c = fits (goal.at.slice_bounds-is_far-end c).After-read_at-n
@@ -42,7 +39,7 @@ slice_bounds-is_far-end-2 c =
 
 pub is_far-requires : goal.is_far-requires
 is_far-requires c =
-    let pre = (start (goal.at.is_far-requires c).After-read_at-arg-1).requires in (
+    let pre = c.requires in (
       pre.3,
       subst Valid (sym c.read_at-n.ensures.0) (here-valid pre.0),
       subst KeptSized c.in-Pair.is pre.1,
@@ -50,9 +47,9 @@ is_far-requires c =
 
 pub returns : goal.returns
 returns c =
-    let args = (start (goal.at.returns c).After-read_at-arg-1).args in
+    let args = c.args in
     let r = record_at args.log.now args.q in
-    let valid = here-valid (start (goal.at.returns c).After-read_at-arg-1).requires.0 in (
+    let valid = here-valid c.requires.0 in (
       (λ k on A G a s x. ap (is_nearer (distance G (grown_of A r))) c.in-Pair.is
           ∙ ap not (c.is_far.ensures k G (grown_of A r) s (grown_of-shape A r valid a)
           (grown_of-spans A r valid a x c.read_at-n.ensures.0))),

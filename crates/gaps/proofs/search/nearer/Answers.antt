@@ -29,7 +29,7 @@ compared p q i j w v x e = ap (λ (t : Bool). cond t (Best.Pair p q w) (Best.Pai
     turned false = refl
 
 tested : (c : After-is_less) {x : Bool} → c.is_less.result ≡ x → let args = c.args in
-    cond x (Best.Pair args.p args.q args.spacing) (Best.Pair c.best-1.given.0 c.in-Pair.is.0 c.in-Pair.is.1.0)
+    cond x (Best.Pair args.p args.q args.spacing) (Best.Pair c.in-Pair.first c.in-Pair.second c.in-Pair.old)
     ≡ nearer args.p args.q args.spacing args.best
 tested c {x} e =
     let args = c.args in

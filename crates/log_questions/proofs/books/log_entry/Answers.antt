@@ -9,14 +9,14 @@ use Rattle.journal.specs.Survey.{Entered, EntryAt}
 use Rattle.journal.specs.theory.Survey.{surveyed-ends}
 use Rattle.log_questions.specs.theory.Entries.{entry-damaged, entry-few, entry-room, entry_found}
 use Rattle.log_questions.proofs.books.log_entry.Goals as goal
-use Rattle.log_questions.proofs.books.log_entry.Goals.{In-At-2, In_default}
+use Rattle.log_questions.proofs.books.log_entry.Goals.{In-At, In_default}
 
 -- past the survey no record is bad
 sound : (c : In_default) → damaged (records c.args.log.now) ≡ false
 sound c = (surveyed-ends _ c.in_default.field-0 (sym c.survey.ensures ∙ c.in_default.is)).0
 
 -- past the search the head is that of the current record
-found : (c : In-At-2) →
+found : (c : In-At) →
     EntryAt c.args.log.now c.args.k c.in-At.head
 found c = subst (Entered _ _) c.in-At.is c.entry.ensures
 
@@ -33,12 +33,12 @@ returns-in_default-entry c =
 
 pub returns-then-out-head : goal.returns-then-out-head
 returns-then-out-head c =
-    entry-room _ _ _ (sound (goal.at.returns-then-out-head c).In_default) _ (found (goal.at.returns-then-out-head c).In-At-2) c.if-out-head.true
+    entry-room _ _ _ (sound (goal.at.returns-then-out-head c).In_default) _ (found (goal.at.returns-then-out-head c).In-At) c.if-out-head.true
 
 pub decode-requires : goal.decode-requires
-decode-requires c = ((found (goal.at.decode-requires c).In-At-2).stated.inside, omega (arith, c.if-out-head.false))
+decode-requires c = ((found (goal.at.decode-requires c).In-At).stated.inside, omega (arith, c.if-out-head.false))
 
 pub returns : goal.returns
 returns c =
-    entry_found _ _ _ (sound (goal.at.returns c).In_default) _ (found (goal.at.returns c).In-At-2) (omega (arith, c.if-out-head.false))
+    entry_found _ _ _ (sound (goal.at.returns c).In_default) _ (found (goal.at.returns c).In-At) (omega (arith, c.if-out-head.false))
     c.decode.ensures

@@ -13,7 +13,7 @@ use Rattle.pair_questions.proofs.separators.told.Goals as goal
 pub returns-in-Direction : goal.returns-in-Direction
 returns-in-Direction c =
     ap₂ (λ (u v : ℤ). answered (pos 1 ∷ u ∷ v ∷ pos c.args.floor ∷ []))
-    (result-is w32 c.known_told-1.given.0.1 refl) (result-is w32 c.known_told-1.given.1.0.1 refl)
+    (result-is w32 c.in-Direction.known_told-1-own.given.0.1 refl) (result-is w32 c.in-Direction.known_told-1-own.given.1.0.1 refl)
     ∙ ap (λ (x : Separator). answered (separator_numbers x ++ (pos c.args.floor ∷ [])))
     (sym c.in-Direction.is)
 

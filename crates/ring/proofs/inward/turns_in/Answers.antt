@@ -56,7 +56,7 @@ module _ (c : After-turn_at) where
 
 -- it turns left
 left_there : (c : Else-not-turn_at) →
-    let i = (begin (goal.at.Else-not-turn_at c).After-turn_at).args.i in
+    let i = c.args.i in
     lt_z (pos 0) (turn (point (goal.at.Else-not-turn_at c).After-turn_at (previous (all (goal.at.Else-not-turn_at c).After-turn_at) i)) (point (goal.at.Else-not-turn_at c).After-turn_at i) (point (goal.at.Else-not-turn_at c).After-turn_at (next (all (goal.at.Else-not-turn_at c).After-turn_at) i))) ≡ true
 left_there c = sym (ap (lt_z (pos 0)) (turned (goal.at.Else-not-turn_at c).After-turn_at)) ∙ c.if-not-turn_at.false
 
@@ -70,12 +70,12 @@ returns-then-i-eq0 c =
 
 pub precedes_at-requires : goal.precedes_at-requires
 precedes_at-requires c =
-    let placed = (begin (goal.at.precedes_at-requires c).After-turn_at).requires.0 in
-    (placed.below _ (begin (goal.at.precedes_at-requires c).After-turn_at).requires.1, placed.below _ c.previous.ensures.upper_bound)
+    let placed = c.requires.0 in
+    (placed.below _ c.requires.1, placed.below _ c.previous.ensures.upper_bound)
 
 pub returns-then-not-precedes_at : goal.returns-then-not-precedes_at
 returns-then-not-precedes_at c =
-    let i = (begin (goal.at.returns-then-not-precedes_at c).After-turn_at).args.i in
+    let i = c.args.i in
     let told = ap (λ (k : ℕ). precedes (point (goal.at.returns-then-not-precedes_at c).After-turn_at i) (point (goal.at.returns-then-not-precedes_at c).After-turn_at k)) (sym (before-is (goal.at.returns-then-not-precedes_at c).After-turn_at)) ∙ sym
     c.precedes_at.ensures
     ∙ c.if-not-precedes_at.true in
@@ -83,12 +83,12 @@ returns-then-not-precedes_at c =
 
 pub precedes_at-requires-2 : goal.precedes_at-requires-2
 precedes_at-requires-2 c =
-    let placed = (begin (goal.at.precedes_at-requires-2 c).After-turn_at).requires.0 in
-    (placed.below _ (begin (goal.at.precedes_at-requires-2 c).After-turn_at).requires.1, placed.below _ c.next.ensures.upper_bound)
+    let placed = c.requires.0 in
+    (placed.below _ c.requires.1, placed.below _ c.next.ensures.upper_bound)
 
 pub returns : goal.returns
 returns c =
-    let i = (begin (goal.at.returns c).After-turn_at).args.i in
+    let i = c.args.i in
     let told = ap (λ (k : ℕ). precedes (point (goal.at.returns c).After-turn_at i) (point (goal.at.returns c).After-turn_at k)) (sym (before-is (goal.at.returns c).After-turn_at)) ∙ sym c.precedes_at.ensures
     ∙ c.if-not-precedes_at.false in
     c.precedes_at-2.ensures ∙ ap (λ (k : ℕ). precedes (point (goal.at.returns c).After-turn_at i) (point (goal.at.returns c).After-turn_at k)) (after_is (goal.at.returns c).After-turn_at)

@@ -48,7 +48,7 @@ overflow_sub-count c = omega (arith, c.gather-count.ensures.counted)
 
 pub offset_bounds-kept-count : goal.offset_bounds-kept-count
 offset_bounds-kept-count c =
-    omega (arith, c.gather-count.ensures.counted, c.gather-count.ensures.fits, c.gather-count.auto.kept, (begin (goal.at.offset_bounds-kept-count c).After-gather-count).well_formed.1.1.1.0)
+    omega (arith, c.gather-count.ensures.counted, c.gather-count.ensures.fits, c.gather-count.auto.kept, c.well_formed.1.1.1.0)
 
 pub bounds-kept-count : goal.bounds-kept-count
 bounds-kept-count c =
@@ -57,18 +57,16 @@ bounds-kept-count c =
 
 pub less_closing-requires : goal.less_closing-requires
 less_closing-requires c =
-    let start = begin (goal.at.less_closing-requires c).After-gather-count in
-    let b = length (points start.args.list.now) in (
-      omega (arith, start.requires.0, start.requires.1),
+    let b = length (points c.args.list.now) in (
+      omega (arith, c.requires.0, c.requires.1),
       subst (λ (i : ℕ). i < b) (sym (last-is (goal.at.less_closing-requires c).After-gather-count)) (under_at b (all (goal.at.less_closing-requires c).After-gather-count) (under (goal.at.less_closing-requires c).After-gather-count) (length (all (goal.at.less_closing-requires c).After-gather-count) - 1) (omega arith)),
     )
 
 pub returns : goal.returns
 returns c =
-    let start = begin (goal.at.returns c).After-gather-count in
-    let n = start.args.n in
-    let s = start.args.start in
-    let ps = points start.args.list.now in
+    let n = c.args.n in
+    let s = c.args.start in
+    let ps = points c.args.list.now in
     let xs = all (goal.at.returns c).After-gather-count in
     let k = c.gather-count.result in
     let l = c.gather-count.new.kept in
@@ -78,5 +76,5 @@ returns c =
     let count = c.less_closing.ensures ∙ ap (λ (t : Bool). cond t (k - 1) k) test in
     subst (λ (r : ℕ). Held (distinct (f (goal.at.returns c).After-gather-count) (walked n s n)) r l) (sym count)
     (subst (λ (w : List ℕ). Held (distinct (f (goal.at.returns c).After-gather-count) w) (cond (closed (f (goal.at.returns c).After-gather-count) xs) (k - 1) k) l)
-    (sym (walked_whole n s (omega (arith, start.requires.1))))
+    (sym (walked_whole n s (omega (arith, c.requires.1))))
     (held-less (closed (f (goal.at.returns c).After-gather-count) xs) c.gather-count.ensures))

@@ -35,21 +35,19 @@ module _ (c : After-place) where
 
 pub straight_at-requires : goal.straight_at-requires
 straight_at-requires c =
-    let start = begin c in
     let n = all c in
-    let j = start.args.j in
-    let b = length (points start.args.list.now) in (
-      subst (λ (i : ℕ). i < b) (sym (is-before c)) (sound c (previous n j) (previous-below n j start.requires.1)),
-      subst (λ (i : ℕ). i < b) (sym c.place.ensures) (sound c j start.requires.1),
-      subst (λ (i : ℕ). i < b) (sym (is-after c)) (sound c (next n j) (next-below n j start.requires.1)),
-      start.requires.0.near,
+    let j = c.args.j in
+    let b = length (points c.args.list.now) in (
+      subst (λ (i : ℕ). i < b) (sym (is-before c)) (sound c (previous n j) (previous-below n j c.requires.1)),
+      subst (λ (i : ℕ). i < b) (sym c.place.ensures) (sound c j c.requires.1),
+      subst (λ (i : ℕ). i < b) (sym (is-after c)) (sound c (next n j) (next-below n j c.requires.1)),
+      c.requires.0.near,
     )
 
 pub returns : goal.returns
 returns c =
-    let start = begin (goal.at.returns c).After-place in
-    let ps = points start.args.list.now in
+    let ps = points c.args.list.now in
     ap not (c.straight_at.ensures
     ∙ ap₂ (λ (a d : ℕ). straight (corner ps a) (corner ps c.place.result) (corner ps d)) (is-before (goal.at.returns c).After-place) (is-after (goal.at.returns c).After-place)
-    ∙ ap (λ (b : ℕ). straight (corner ps (sense (goal.at.returns c).After-place (previous (all (goal.at.returns c).After-place) start.args.j))) (corner ps b)
-    (corner ps (sense (goal.at.returns c).After-place (next (all (goal.at.returns c).After-place) start.args.j)))) c.place.ensures)
+    ∙ ap (λ (b : ℕ). straight (corner ps (sense (goal.at.returns c).After-place (previous (all (goal.at.returns c).After-place) c.args.j))) (corner ps b)
+    (corner ps (sense (goal.at.returns c).After-place (next (all (goal.at.returns c).After-place) c.args.j)))) c.place.ensures)

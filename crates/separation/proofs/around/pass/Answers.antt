@@ -44,13 +44,6 @@ stride-far-requires c = c.requires
 other-is : {x y : Bool} → x ≡ false → (x || y) ≡ true → y ≡ true
 other-is {x} {y} e h = ap (λ (b : Bool). b || y) (sym e) ∙ h
 
--- the places after the stride, and at the beginning
-abbrev after-stride : After-struct_known-5-1 → After-stride-far
-after-stride c = c.before.before.before.before.before.before.before
-
-abbrev start : After-struct_known-5-1 → Start
-start c = (after-stride c).before
-
 -- their count fits
 fits : (c : Start) → let args = c.args in
     length (edges (points args.a.now)) + length (edges (points (image args.b.now))) < 2 ^ 63
@@ -67,13 +60,13 @@ overflow_add-count c =
     omega (arith, p.first-side.at_in, p.second-side.at_in, fits c.before.before.before.before.before.before.before)
 
 pub overflow_sub-count : goal.overflow_sub-count
-overflow_sub-count c = omega (arith, (after-stride c).stride.ensures.counted)
+overflow_sub-count c = omega (arith, c.stride-far.ensures.counted)
 
 pub loop-m-init : goal.loop-m-init
 loop-m-init c =
-    let args = (start c).args in
-    let r = (after-stride c).stride.result in
-    let p = (after-stride c).stride.ensures in
+    let args = c.args in
+    let r = c.stride-far.result in
+    let p = c.stride-far.ensures in
     let count : p.count ≡ r.s.at + r.t.at - r.joined = omega (arith, p.counted) in (
       subst (λ (k : ℕ). Passing args.a.now (image args.b.now) (walk_of r.s r.t false) k false) count p.passing,
       p.first-side,
@@ -88,7 +81,7 @@ next-m-requires c = let inv = c.loop-m.invariant in first_next (passing-at inv.0
 
 pub next-n-requires : goal.next-n-requires
 next-n-requires c =
-    let pre = (start c.before.before.before.before).pre in
+    let pre = c.requires in
     (pre.1, pre.2, c.loop-m.invariant.2)
 
 pub here-from-requires : goal.here-from-requires
@@ -96,7 +89,7 @@ here-from-requires c = let inv = c.loop-m.invariant in corners-fit (passing-at i
 
 -- the walk after the step
 steps : (c : After-next-n) (end : Bool) →
-    let args = (start c.before.before.before.before.before).args in
+    let args = c.args in
     At args.a.now (image args.b.now) (walk_of c.next-m.result c.next-n.result end)
 steps c end =
     let inv = c.loop-m.invariant in
@@ -104,7 +97,7 @@ steps c end =
     c.next-m.result c.next-n.result c.next-m.ensures.0 c.next-n.ensures.0
 
 advances : (c : After-next-n) →
-    let args = (start c.before.before.before.before.before).args in
+    let args = c.args in
     let m = c.next-m.result in
     let n = c.next-n.result in
     walk_of m n (finished (points args.a.now) m.at (points (image args.b.now)) n.at)
@@ -120,14 +113,14 @@ here-requires c =
 
 -- where it is before and after the step
 leaves : (c : After-here) →
-    let args = (start c.before.before.before.before.before.before).args in
+    let args = c.args in
     at c.here-from.result
     ≡ here (points args.a.now) (points (image args.b.now)) (walk_of c.loop-m.s c.loop-m.t false)
 leaves c = let inv = c.loop-m.invariant in
     c.here-from.ensures ∙ sides-here (passing-at inv.0) inv.1 inv.2
 
 arrives : (c : After-here) (end : Bool) →
-    let args = (start c.before.before.before.before.before.before).args in
+    let args = c.args in
     at c.here.result
     ≡ here (points args.a.now) (points (image args.b.now)) (walk_of c.next-m.result c.next-n.result end)
 arrives c end =
@@ -143,16 +136,15 @@ either-rim-requires c = tt
 
 pub overflow_add-count-in-loop-m : goal.overflow_add-count-in-loop-m
 overflow_add-count-in-loop-m c =
-    let begin = start c.before.before.before.before.before.before.before.before in
     let fewer = passing-count c.loop-m.invariant.0 refl in
-    let count = image-count begin.args.b.now begin.requires.1 in
-    omega (arith, points-length begin.args.a.now, points-length begin.args.b.now)
+    let count = image-count c.args.b.now c.requires.1 in
+    omega (arith, points-length c.args.a.now, points-length c.args.b.now)
 
 pub overflow_add-m : goal.overflow_add-m
 overflow_add-m c =
     let first = c.next-m.ensures.1.at_in in
     let second = c.next-n.ensures.1.at_in in
-    omega (arith, fits (start c.before.before.before.before.before.before.before.before.before.before))
+    omega (arith, fits c.before.before.before.before.before.before.before.before.before.before.before.before.before.before.before.before.before.before)
 
 pub either-requires : goal.either-requires
 either-requires c = tt
@@ -166,14 +158,14 @@ passed_normal-requires c =
 
 -- the turn of the edge that is passed
 turn_is : (c : After-cross-turn) (end : Bool) →
-    let args = (start c.before.before.before.before.before.before.before).args in
+    let args = c.args in
     to_z w64 (of_z w64 c.cross-turn.result)
     ≡ cross (here (points args.a.now) (points (image args.b.now)) (walk_of c.loop-m.s c.loop-m.t false))
     (here (points args.a.now) (points (image args.b.now)) (walk_of c.next-m.result c.next-n.result end))
 turn_is c end = result-is w64 c.cross-turn.type_inv (c.cross-turn.ensures ∙ ap₂ cross (leaves c.before) (arrives c.before end))
 
 pub returns-then-either : goal.returns-then-either
-returns-then-either c = let strode = (after-stride c.before.before.before.before.before.before.before.before.before.before.before.before.before).stride.ensures in
+returns-then-either c = let strode = c.stride-far.ensures in
     let inv = c.loop-m.invariant in record {
       passed = passing-stop inv.0 refl (advances c.before.before.before.before.before.before.before.before) (turn_is c.before.before.before.before.before.before _) c.either-rim.ensures c.passed_normal.result
           (c.passed_normal.ensures ∙ ap₂ (cond (ltb c.loop-m.s.at c.next-m.result.at))
@@ -191,9 +183,9 @@ loop-m-smaller c =
 
 pub loop-m-preserved : goal.loop-m-preserved
 loop-m-preserved c =
-    let strode = (after-stride c.before.before.before.before.before.before.before.before.before.before.before.before).stride.ensures in
+    let strode = c.stride-far.ensures in
     let inv = c.loop-m.invariant in
-    let args = (start c.before.before.before.before.before.before.before.before.before.before.before.before).args in
+    let args = c.args in
     let neither = either-false _ _ (sym c.either.ensures ∙ c.if-either.false) in
     let on = some_left _ _ c.next-m.result.at c.next-n.result.at
     (λ e. eqb-false _ _ neither.1 (e ∙ sym (image-sides strode.first-side strode.second-side))) in (

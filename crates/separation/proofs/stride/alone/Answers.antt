@@ -27,8 +27,7 @@ start c = c.before.before.before
 
 pub overflow_add-n : goal.overflow_add-n
 overflow_add-n c =
-    let begin = start c.before in
-    omega (arith, c.loop-n.invariant.second-side.at_in, image-few _ _ begin.requires.0 begin.requires.1, begin.well_formed.0, begin.well_formed.1.0)
+    omega (arith, c.loop-n.invariant.second-side.at_in, image-few _ _ c.requires.0 c.requires.1, c.well_formed.0, c.well_formed.1.0)
 
 pub here-requires : goal.here-requires
 here-requires c = let p = c.loop-n.invariant in corners-fit (strode-at p) p.first-side p.second-side
@@ -44,7 +43,7 @@ returns-then-moment-le0 c = c.loop-n.invariant
 
 pub ahead-n-requires : goal.ahead-n-requires
 ahead-n-requires c =
-    let pre = (start c.before.before.before.before.before.before).requires in
+    let pre = c.requires in
     (pre.1, pre.2, c.loop-n.invariant.second-side, c.loop-n-test.true)
 
 pub loop-n-smaller : goal.loop-n-smaller

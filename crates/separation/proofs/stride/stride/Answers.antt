@@ -22,7 +22,7 @@ use Rattle.separation.specs.Passing.{Strode}
 use Rattle.separation.specs.theory.Image.{image-begun, image-few}
 use Rattle.separation.proofs.Striding.{strode-start, strode-at, strode-first, strode-second, strode-both, strode-same, goes_on}
 use Rattle.separation.proofs.stride.stride.Goals as goal
-use Rattle.separation.proofs.stride.stride.Goals.{After-order-c, At-loop-from, Joined-c-gt0, Start}
+use Rattle.separation.proofs.stride.stride.Goals.{After-order-c, At-loop-from, Joined-c-gt0, Start, then-c-gt0+else-moment-le0, else-c-gt0+then-c-lt0+else-moment-le0-2, else-c-gt0+else-c-lt0+else-joint_moment-le0}
 
 pub side_at-s-requires : goal.side_at-s-requires
 side_at-s-requires c = (omega arith, c.requires.0.in_range, c.requires.0.shape.some)
@@ -81,7 +81,7 @@ fit c =
     (small-wide near, both.0, both.1)
 
 -- what the sides ask for to go on
-first-ahead : (c : At-loop-from) → let args = (start c).args in
+first-ahead : (c : At-loop-from) → let args = c.args in
     let s = c.loop-from.s in
     Carried args.a.now s × InRange args.a.now × (0 < length (points args.a.now)) × (s.at + 2 < s.end)
 first-ahead c =
@@ -89,10 +89,10 @@ first-ahead c =
     let ready = first_next (strode-at p) p.first-side p.second-side in
     (ready.0, ready.1, ready.2, c.loop-from.invariant.1)
 
-second-ahead : (c : At-loop-from) → let args = (start c).args in
+second-ahead : (c : At-loop-from) → let args = c.args in
     let t = c.loop-from.t in
     Valid args.b.now × Peak (points args.b.now) args.top × Carried (image args.b.now) t × (t.at + 2 < t.end)
-second-ahead c = let pre = (start c).requires in (pre.1, pre.2, c.loop-from.invariant.0.second-side, c.loop-from.invariant.2)
+second-ahead c = let pre = c.requires in (pre.1, pre.2, c.loop-from.invariant.0.second-side, c.loop-from.invariant.2)
 
 pub moment-requires : goal.moment-requires
 moment-requires c = let f = fit c.before in (f.0, f.1)
@@ -131,7 +131,7 @@ overflow_add-joined c =
 
 -- one side went on, or both: the walk is further, and less is left
 further : (c : Joined-c-gt0) →
-    let args = (start c.before.before.before).args in
+    let args = c.args in
     let E = edges (points args.a.now) in
     let F = edges (points (image args.b.now)) in
     Strode args.a.now (image args.b.now) c.if-c-gt0.s c.if-c-gt0.t c.if-c-gt0.joined
@@ -141,48 +141,48 @@ further c =
     let p = inv.0 in
     let product = result-is w64 c.order-c.type_inv c.order-c.ensures in
     elim c.if-c-gt0.branch [
-      | inl q ↦ (
-        strode-same q.4 q.5 q.6 (strode-first p product c.here-from.ensures q.2.left inv.1 inv.2
-            q.0.taken (result-is w64 q.1.ok q.1.ensures) _ q.3.ensures.0 q.3.ensures.1),
+      | then-c-gt0+else-moment-le0 w ↦ (
+        strode-same w.s-is w.t-is w.joined-is (strode-first p product c.here-from.ensures w.if-moment-le0.false inv.1 inv.2
+            w.if-c-gt0.true (result-is w64 w.moment.type_inv w.moment.ensures) _ w.ahead-s.ensures.0 w.ahead-s.ensures.1),
         omega (
           arith,
-          ap (λ (z : Side). z.at) q.4,
-          ap (λ (z : Side). z.at) q.5,
+          ap (λ (z : Side). z.at) w.s-is,
+          ap (λ (z : Side). z.at) w.t-is,
           inv.1,
           p.first-side.end_is,
-          goes_on p.first-side inv.1 q.3.ensures.0,
+          goes_on p.first-side inv.1 w.ahead-s.ensures.0,
         ),
       )
-      | inr r ↦ elim r [
-        | inl q ↦ (
-          strode-same q.5 q.6 q.7 (strode-second p product c.here-from.ensures q.3.left inv.1 inv.2
-              q.1.taken (result-is w64 q.2.ok q.2.ensures) _ q.4.ensures.0 q.4.ensures.1),
-          omega (
-            arith,
-            ap (λ (z : Side). z.at) q.5,
-            ap (λ (z : Side). z.at) q.6,
-            inv.2,
-            p.second-side.end_is,
-            goes_on p.second-side inv.2 q.4.ensures.0,
-          ),
-        )
-        | inr q ↦ (
-          strode-same q.6 q.7 q.8 (strode-both p product c.here-from.ensures q.3.left inv.1 inv.2
-              q.0.left q.1.left (result-is w64 q.2.ok q.2.ensures) _ _ q.4.ensures.0 q.5.ensures.0
-              q.4.ensures.1 q.5.ensures.1),
-          omega (
-            arith,
-            ap (λ (z : Side). z.at) q.6,
-            ap (λ (z : Side). z.at) q.7,
-            inv.1,
-            inv.2,
-            p.first-side.end_is,
-            p.second-side.end_is,
-            goes_on p.first-side inv.1 q.4.ensures.0,
-            goes_on p.second-side inv.2 q.5.ensures.0,
-          ),
-        )
-      ]
+      | else-c-gt0+then-c-lt0+else-moment-le0-2 w ↦ (
+        strode-same w.s-is w.t-is w.joined-is (strode-second p product c.here-from.ensures w.if-moment-le0-2.false inv.1 inv.2
+            w.if-c-lt0.true (result-is w64 w.moment-then-c-lt0.type_inv w.moment-then-c-lt0.ensures) _ w.ahead-t.ensures.0
+            w.ahead-t.ensures.1),
+        omega (
+          arith,
+          ap (λ (z : Side). z.at) w.s-is,
+          ap (λ (z : Side). z.at) w.t-is,
+          inv.2,
+          p.second-side.end_is,
+          goes_on p.second-side inv.2 w.ahead-t.ensures.0,
+        ),
+      )
+      | else-c-gt0+else-c-lt0+else-joint_moment-le0 w ↦ (
+        strode-same w.s-is w.t-is w.joined-is (strode-both p product c.here-from.ensures w.if-joint_moment-le0.false inv.1 inv.2
+            w.if-c-gt0.false w.if-c-lt0.false (result-is w64 w.joint_moment.type_inv w.joint_moment.ensures) _ _
+            w.ahead-s-else-c-lt0.ensures.0 w.ahead-t-else-c-lt0.ensures.0 w.ahead-s-else-c-lt0.ensures.1
+            w.ahead-t-else-c-lt0.ensures.1),
+        omega (
+          arith,
+          ap (λ (z : Side). z.at) w.s-is,
+          ap (λ (z : Side). z.at) w.t-is,
+          inv.1,
+          inv.2,
+          p.first-side.end_is,
+          p.second-side.end_is,
+          goes_on p.first-side inv.1 w.ahead-s-else-c-lt0.ensures.0,
+          goes_on p.second-side inv.2 w.ahead-t-else-c-lt0.ensures.0,
+        ),
+      )
     ]
 
 pub are_inside-requires-in-loop-from : goal.are_inside-requires-in-loop-from

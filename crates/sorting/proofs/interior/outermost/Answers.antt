@@ -43,18 +43,14 @@ loop-i-init c =
       omega (arith, some, c.start-d.ensures),
     )
 
--- where the loop began
-abbrev begin : (c : In-loop-i) → After-count-n
-begin c = c.before.before.before.before.before.before.before.before.before.before.before
-
-more : (c : In-loop-i) → c.loop-i.i < length (points (begin c).before.args.list.now)
-more c = omega (arith, c.loop-i-test.true, (begin c).count.ensures)
+more : (c : In-loop-i) → c.loop-i.i < length (points c.args.list.now)
+more c = omega (arith, c.loop-i-test.true, c.count-n.ensures)
 
 pub corner_at-q-requires : goal.corner_at-q-requires
 corner_at-q-requires c = more c
 
 read : (c : After-corner_at-q) → Small (2 ^ 21) (at c.corner_at-q.result)
-read c = small (begin c.before).before c.loop-i.i (more c.before) c.corner_at-q.ensures
+read c = small c.before.before.before.before.before.before.before.before.before.before.before.before.before c.loop-i.i (more c.before) c.corner_at-q.ensures
 
 pub northeast-x-requires : goal.northeast-x-requires
 northeast-x-requires c = read c
@@ -64,14 +60,14 @@ northwest-y-requires c = read c.before
 
 pub overflow_add-i : goal.overflow_add-i
 overflow_add-i c =
-    omega (arith, c.loop-i-test.true, (begin c.before.before.before.before.before.before.before).count.type_inv)
+    omega (arith, c.loop-i-test.true, c.count-n.type_inv)
 
 pub loop-i-smaller : goal.loop-i-smaller
 loop-i-smaller c = omega (arith, c.loop-i-test.true)
 
 pub loop-i-preserved : goal.loop-i-preserved
 loop-i-preserved c =
-    let n = (begin c.before.before.before.before.before.before.before).count.result in
+    let n = c.count-n.result in
     let inv = c.loop-i.invariant in
     let within = c.loop-i-test.true in (
       c.further-a.ensures n inv.0 within,

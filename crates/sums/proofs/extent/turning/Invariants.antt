@@ -18,11 +18,11 @@ abbrev pub Stops : List Point → Point → ℕ → Type 0
 Stops ps d i = value d (corner ps (next (length ps) i)) <ℤ value d (corner ps i)
 
 pub record Halved (ps : List Point) (d : Point) (from to low high : ℕ) : Type 0 where
-  after : from ≤ low
-  order : low ≤ high
-  within : high ≤ to
-  goes : (k : ℕ) → from ≤ k → suc k ≡ low → GoesOn ps d k
-  stops : high < to → Stops ps d high
+  pub after : from ≤ low
+  pub order : low ≤ high
+  pub within : high ≤ to
+  pub goes : (k : ℕ) → from ≤ k → suc k ≡ low → GoesOn ps d k
+  pub stops : high < to → Stops ps d high
 
 abbrev pub invariant-loop-low : goal.invariant-loop-low
 invariant-loop-low l = Halved (points l.list) (at l.d) l.from l.to l.low l.high

@@ -7,7 +7,9 @@ use Rattle.tablet.proofs.doubles.is_whole.Goals as goal
 
 pub truncating_f64_to_i64-requires : goal.truncating_f64_to_i64-requires
 unfolding of_bits neg
-truncating_f64_to_i64-requires c = cuttable c.args.v c.if-v.true c.if-v-2.true
+truncating_f64_to_i64-requires c =
+    let p = cuttable c.args.v c.if-v.true c.if-v-2.true in
+    record { lower_bound = p.0; upper_bound = p.1 }
 
 pub returns-then-v-2 : goal.returns-then-v-2
 unfolding of_bits neg

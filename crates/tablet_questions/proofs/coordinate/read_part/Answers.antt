@@ -11,7 +11,7 @@ use Rattle.tablet_questions.proofs.coordinate.read_part.Goals as goal
 pub returns-in-Whole : goal.returns-in-Whole
 returns-in-Whole c =
     sym c.read.ensures ∙ c.in-Whole.is
-    ∙ ap Whole (sym (result-is w32 c.known_told-1.given.0.1 refl))
+    ∙ ap Whole (sym (result-is w32 c.in-Whole.known_told-1-own.given.0.1 refl))
 
 pub returns-in-NotFinite : goal.returns-in-NotFinite
 returns-in-NotFinite c =
