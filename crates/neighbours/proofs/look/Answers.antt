@@ -71,16 +71,16 @@ slice_bounds-shape-end c = omega (arith, decoded-length c, few c)
 
 pub slice_bounds-shape-end-2 : goal.slice_bounds-shape-end-2
 slice_bounds-shape-end-2 c =
-    sym (length-take-le _ c.decode.new.out (omega (arith, decoded-length (goal.at.slice_bounds-shape-end-2 c).After-decode, few (goal.at.slice_bounds-shape-end-2 c).After-decode)))
+    sym (length-take-le _ c.decode.new.out (omega (arith, decoded-length c, few c)))
 
 pub is_passed-requires : goal.is_passed-requires
 is_passed-requires c =
     let pre = c.requires in
-    (extends-bounded _ pre.1 pre.4, decoded-valid (goal.at.is_passed-requires c).After-decode, pre.2)
+    (extends-bounded _ pre.1 pre.4, decoded-valid (goal.at.is_passed-requires c).After-buffer-1, pre.2)
 
 -- the record is asked for
 asked : (c : After-buffer-1) → let args = c.args in
-    let head = (at_head c).head_at.result in (eqb head.floor args.floor && not (eqb head.name args.but)) ≡ true
+    let head = c.head_at-head.result in (eqb head.floor args.floor && not (eqb head.name args.but)) ≡ true
 asked c = sym c.is_asked.ensures ∙ c.if-not-is_asked.false
 
 pub returns-then-is_passed : goal.returns-then-is_passed
@@ -90,18 +90,18 @@ returns-then-is_passed c =
     let far = c.is_passed.ensures c.if-is_passed.true (points args.list.now) pre.1.shape pre.4 in (
       onward-passed pre.0 (stated-here (goal.at.returns-then-is_passed c).After-decode-arg-1) args.floor args.but (points args.list.now)
           args.best pre.1.shape (asked (goal.at.returns-then-is_passed c).After-buffer-1)
-          (subst (λ l. is_nearer (distance (points args.list.now) (points l)) args.best ≡ false) (decoded (goal.at.returns-then-is_passed c).After-decode) far),
-      decoded-length (goal.at.returns-then-is_passed c).After-decode,
+          (subst (λ l. is_nearer (distance (points args.list.now) (points l)) args.best ≡ false) (decoded (goal.at.returns-then-is_passed c).After-buffer-1) far),
+      decoded-length (goal.at.returns-then-is_passed c).After-buffer-1,
     )
 
 pub between-requires : goal.between-requires
-between-requires c = (c.requires.1, decoded-valid (goal.at.between-requires c).After-decode)
+between-requires c = (c.requires.1, decoded-valid (goal.at.between-requires c).After-buffer-1)
 
 pub kept-requires : goal.kept-requires
 kept-requires c =
     let pre = c.requires in (
       pre.0,
-      spacing-sized _ _ pre.1.shape (decoded-valid (goal.at.kept-requires c).After-decode).shape c.between.result c.between.ensures,
+      spacing-sized _ _ pre.1.shape (decoded-valid (goal.at.kept-requires c).After-buffer-1).shape c.between.result c.between.ensures,
       pre.2,
     )
 
@@ -109,10 +109,10 @@ pub returns : goal.returns
 returns c =
     let args = c.args in
     let pre = c.requires in
-    let spaced = c.between.ensures ∙ ap (λ l. clearance_numbers (points args.list.now) (points l)) (decoded (goal.at.returns c).After-decode) in (
+    let spaced = c.between.ensures ∙ ap (λ l. clearance_numbers (points args.list.now) (points l)) (decoded (goal.at.returns c).After-buffer-1) in (
       subst (Onward (points args.list.now) args.floor args.but args.log.now args.p args.best)
           (sym c.kept.ensures)
           (onward-kept pre.0 (stated-here (goal.at.returns c).After-decode-arg-1) args.floor args.but (points args.list.now)
           args.best pre.1.shape (asked (goal.at.returns c).After-buffer-1) c.between.result spaced),
-      decoded-length (goal.at.returns c).After-decode,
+      decoded-length (goal.at.returns c).After-buffer-1,
     )

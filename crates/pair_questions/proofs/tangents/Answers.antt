@@ -45,7 +45,7 @@ pub returns-in_default-place : goal.returns-in_default-place
 returns-in_default-place c =
     let q = ask_tangents (one (goal.at.returns-in_default-place c).Start) (other (goal.at.returns-in_default-place c).Start) in
     (rest-refused q (shapes (goal.at.returns-in_default-place c).In_default) (refuses {rows = q.rest}
-    (here (ap not (not-apart _ _ c.relation-place.result c.in_default-place.keys2 c.relation-place.ensures))))).0
+    (here (ap not (not-apart _ _ c.relation-place.result c.in_default-place.not-Apart c.relation-place.ensures))))).0
 
 -- past the relation the shapes are apart
 ready : (c : In-Apart) → let args = c.args in

@@ -36,12 +36,12 @@ distinct-m-requires c =
 
 pub slice_bounds-corners-end-2 : goal.slice_bounds-corners-end-2
 slice_bounds-corners-end-2 c =
-    (found (goal.at.slice_bounds-corners-end-2 c).After-distinct-arg-1).counted ∙ ap length (sym (found (goal.at.slice_bounds-corners-end-2 c).After-distinct-arg-1).front)
+    (found (goal.at.slice_bounds-corners-end-2 c).After-distinct-m).counted ∙ ap length (sym (found (goal.at.slice_bounds-corners-end-2 c).After-distinct-m).front)
 
 pub corners-requires : goal.corners-requires
 corners-requires c =
     let ps = points c.args.list.now in
-    let front = sym (found (goal.at.corners-requires c).After-distinct-arg-1).front in (
+    let front = sym (found (goal.at.corners-requires c).After-distinct-m).front in (
       subst (Placed c.args.list.now) front
           (record { near = c.requires.0; below = λ j h. under_at (length ps) (ring_places ps) (places-under ps c.requires.1) j h }),
       subst (λ (xs : List ℕ). 0 < length xs) front (places-some ps c.requires.1),
@@ -55,4 +55,4 @@ returns c =
     let f = corner ps in
     subst (λ (xs : List ℕ). Held xs c.corners.result c.corners.new.bent) (corners-are ps)
     (subst (λ (xs : List ℕ). Held (bends f (sensed f xs)) c.corners.result c.corners.new.bent)
-    (found (goal.at.returns c).After-distinct-arg-1).front c.corners.ensures)
+    (found (goal.at.returns c).After-distinct-m).front c.corners.ensures)

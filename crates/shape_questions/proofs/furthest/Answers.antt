@@ -80,12 +80,12 @@ pub returns : goal.returns
 returns c =
     let ps = points c.args.list.now in
     let face = c.face_towards-face.ensures in
-    let first = face.0 ∙ ap (λ (d : Point). face_first d ps) (direction-is (goal.at.returns c).Start) in
-    let last = face.1.0 ∙ ap (λ (d : Point). face_last d ps) (direction-is (goal.at.returns c).Start) in
+    let first = face.first_value ∙ ap (λ (d : Point). face_first d ps) (direction-is (goal.at.returns c).Start) in
+    let last = face.last_value ∙ ap (λ (d : Point). face_last d ps) (direction-is (goal.at.returns c).Start) in
     let good = passed (goal.at.returns c).In_default-admit_direction in
     let v = valid (goal.at.returns c).In_default in
     let near = direction-near _ good.0 in
-    let small = known (face.1.1 ∙ ap (λ (d : Point). support d ps) (direction-is (goal.at.returns c).Start))
+    let small = known (face.value_value ∙ ap (λ (d : Point). support d ps) (direction-is (goal.at.returns c).Start))
     (support-size _ v.in_range near.0 near.1 v.shape.some) in
     let value = machine-is (machine-read w64 _ small) tt in
     all-answered (asked (goal.at.returns c).Start) v good (told first last value)

@@ -39,7 +39,7 @@ shape c = let args = c.args in combined args.merged (points args.a.now) (points 
 
 -- the part of the buffer that is lent, and the question; it has as much room as the output
 abbrev part : After-room-n → List ℤ
-part c = take c.room.result c.args.shape.now
+part c = take c.room-n.result c.args.shape.now
 
 abbrev question : After-room-n → Question
 question c = asked (combined c.args.merged) (first c) (second c) (part c)
@@ -62,7 +62,7 @@ fit c none few =
 
 -- the first value of the reply
 abbrev count : After-ask-reply → ℕ
-count c = get_or c.ask.result.values 0 0
+count c = get_or c.ask-reply.result.values 0 0
 
 counted : (c : After-ask-reply) → count c ≡ get_or (crossed (reply (question (goal.at.After-ask-reply c).After-room-n))) 5 0
 counted c =
@@ -93,15 +93,15 @@ encode-requires c =
 
 pub packed_reply-requires : goal.packed_reply-requires
 packed_reply-requires c =
-    narrow _ c.ask-reply.ensures.0 (made-fits (first (goal.at.packed_reply-requires c).After-slice_known-1) (second (goal.at.packed_reply-requires c).After-slice_known-1) (shape (goal.at.packed_reply-requires c).After-slice_known-1) (part (goal.at.packed_reply-requires c).After-slice_known-1))
+    narrow _ c.ask-reply.ensures.0 (made-fits (first (goal.at.packed_reply-requires c).After-room-n) (second (goal.at.packed_reply-requires c).After-room-n) (shape (goal.at.packed_reply-requires c).After-room-n) (part (goal.at.packed_reply-requires c).After-room-n))
 
 pub returns : goal.returns
 returns c =
     let args = c.args in
     let new = c.ask-reply.new.shape in
     let rest = drop c.room-n.result args.shape.now in
-    made-stored (shapes (goal.at.returns c).After-slice_known-1) (shape (goal.at.returns c).After-slice_known-1) (part (goal.at.returns c).After-slice_known-1) args.out.now (room (goal.at.returns c).After-room-n) (fit (goal.at.returns c).After-room-n) rest
+    made-stored (shapes (goal.at.returns c).After-room-n) (shape (goal.at.returns c).After-room-n) (part (goal.at.returns c).After-room-n) args.out.now (room (goal.at.returns c).After-room-n) (fit (goal.at.returns c).After-room-n) rest
     c.ask-reply.auto.shape c.ask-reply.ensures.1
-    (c.packed_reply.ensures (reply (question (goal.at.returns c).After-slice_known-1)) c.ask-reply.ensures.0)
+    (c.packed_reply.ensures (reply (question (goal.at.returns c).After-room-n)) c.ask-reply.ensures.0)
     (c.encode.ensures
     ∙ ap (λ (n : ℕ). overwritten (words (take (2 * n) (new ++ rest))) args.out.now) (counted (goal.at.returns c).After-ask-reply))

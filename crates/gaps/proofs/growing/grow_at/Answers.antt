@@ -65,7 +65,7 @@ wrote-length c =
     let l = take c.read_at-n.result c.read_at-n.new.shape in
     let grown_list = shape_of (differences (points l) (points c.args.cart.now)) in
     written-length grown_list c.args.out.now c.write.new.out c.write.ensures.1
-    (write-requires (goal.at.After-write c).After-write-arg-1 c.write.lifetimes).3
+    (write-requires c.before.before).3
 
 pub returns : goal.returns
 unfolding grown grown_of

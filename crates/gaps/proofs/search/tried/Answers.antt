@@ -45,10 +45,10 @@ returns-then-is_passed c =
     )
 
 abbrev passed-at : After-is_on → After-is_passed
-passed-at c = c.before.before.before
+passed-at c = (goal.at.After-is_on c).After-is_passed
 
 abbrev start_of : After-is_on → Start
-start_of c = (passed-at c).before.before.before
+start_of c = c.before.before.before.before.before.before.before
 
 pub returns-then-not-is_on : goal.returns-then-not-is_on
 returns-then-not-is_on c =
