@@ -20,7 +20,7 @@ use Rattle.journal.specs.theory.Stepping.{here-valid}
 use Rattle.gaps.specs.Gap.{grown_of}
 use Rattle.gaps.specs.theory.Read.{valid-fits, written-length, grown_of-few}
 use Rattle.gaps.proofs.growing.grow_at.Goals as goal
-use Rattle.gaps.proofs.growing.grow_at.Goals.{After-read_at-n, After-top, After-write}
+use Rattle.gaps.proofs.growing.grow_at.Goals.{After-read_at-n, After-top, After-write, After-write-arg-1}
 
 -- the numbers that were read are in the buffer
 fits : (c : After-read_at-n) → c.read_at-n.result ≤ length c.read_at-n.new.shape
@@ -65,7 +65,7 @@ wrote-length c =
     let l = take c.read_at-n.result c.read_at-n.new.shape in
     let grown_list = shape_of (differences (points l) (points c.args.cart.now)) in
     written-length grown_list c.args.out.now c.write.new.out c.write.ensures.1
-    (write-requires c.before.before).3
+    (write-requires (goal.at.After-write c).After-write-arg-1).3
 
 pub returns : goal.returns
 unfolding grown grown_of

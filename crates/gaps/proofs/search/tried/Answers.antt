@@ -54,17 +54,17 @@ pub returns-then-not-is_on : goal.returns-then-not-is_on
 returns-then-not-is_on c =
     let off = sym c.is_on.ensures ∙ c.if-not-is_on.true in (
       left (start_of (goal.at.returns-then-not-is_on c).After-is_on) (λ on. absurd (true≢false (sym on ∙ off))),
-      (passed-at (goal.at.returns-then-not-is_on c).After-is_on).is-passed.ensures.1,
-      (start_of (goal.at.returns-then-not-is_on c).After-is_on).requires.5,
+      (passed-at (goal.at.returns-then-not-is_on c).After-is_on).is_passed.ensures.1,
+      c.requires.5,
     )
 
-is-on : (c : Else-not-is_on) → let args = (start_of (goal.at.Else-not-is_on c).After-is_on).args in is_on args.floor args.log.now args.q ≡ true
+is-on : (c : Else-not-is_on) → let args = c.args in is_on args.floor args.log.now args.q ≡ true
 is-on c = sym c.is_on.ensures ∙ c.if-not-is_on.false
 
 pub grow_at-m-requires : goal.grow_at-m-requires
 grow_at-m-requires c =
-    let pre = (start_of (goal.at.grow_at-m-requires c).After-is_on).requires in
-    let passed = (passed-at (goal.at.grow_at-m-requires c).After-is_on).is-passed.ensures in
+    let pre = c.requires in
+    let passed = (passed-at (goal.at.grow_at-m-requires c).After-is_on).is_passed.ensures in
     (pre.2, pre.3, passed.1, pre.5, walk-fits _ pre.0 pre.2.here (is-on (goal.at.grow_at-m-requires c).Else-not-is_on))
 
 pub slice_bounds-between-end-2 : goal.slice_bounds-between-end-2
@@ -72,32 +72,30 @@ slice_bounds-between-end-2 c = sym (front_length c.grow_at-m.ensures.0)
 
 pub between-requires : goal.between-requires
 between-requires c =
-    let pre = (start_of (goal.at.between-requires c).Else-is_passed).requires in (
+    let pre = c.requires in (
       pre.7,
       subst Valid (sym c.grow_at-m.ensures.0.front)
           (grown_of-valid _ _ (here-valid pre.2) pre.3.shape.some (walk-fits _ pre.0 pre.2.here (is-on (goal.at.between-requires c).Else-not-is_on))),
     )
 
 -- how far apart the two are
-found : (c : After-between) → let args = (start_of (goal.at.After-between c).Else-is_passed).args in
+found : (c : After-between) → let args = c.args in
     Found (points args.cart.now) args.log.now args.p args.q c.between.result
 found c =
-    let pre = (start_of (goal.at.After-between c).Else-is_passed).requires in
+    let pre = c.requires in
     found_of _ _ _ _ pre.3.shape.some pre.1 pre.2 c.between.result
     (c.between.ensures ∙ ap₂ clearance_numbers pre.8 (front-points c.grow_at-m.ensures.0))
 
 pub nearer-requires : goal.nearer-requires
 nearer-requires c =
-    let start = start_of (goal.at.nearer-requires c).Else-is_passed in
-    ((found c).sized, told-sized _ _ start.args.best start.requires.6)
+    ((found c).sized, told-sized _ _ c.args.best c.requires.6)
 
 pub returns : goal.returns
 returns c =
-    let start = start_of (goal.at.returns c).Else-is_passed in
-    let args = start.args in
+    let args = c.args in
     let A = points args.cart.now in
     let pairs = ap (λ (t : Bool). cond t (pair_at args.log.now args.p args.q ∷ []) []) (sym (is-on (goal.at.returns c).Else-not-is_on)) in
-    let passed = passed-tried A args.log.now args.p args.q c.between.result args.best start.requires.6
+    let passed = passed-tried A args.log.now args.p args.q c.between.result args.best c.requires.6
     (found (goal.at.returns c).After-between) in (
       subst (λ (r : Best). Passed A args.log.now (tried_at args.floor args.log.now args.p args.q) args.best r)
           (sym c.nearer.ensures) (subst (λ (ps : List Pair). Passed A args.log.now ps args.best
