@@ -1,5 +1,3 @@
 -- The area of a shape: the definition; what it means; cases; then the theory.
 pub mod Area
-pub mod Meaning
 pub mod Cases
-pub mod theory

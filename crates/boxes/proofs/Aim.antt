@@ -11,8 +11,8 @@ use Rattle.plane.specs.Cut.{quarter}
 use Rattle.plane.specs.Face.{Furthest}
 use Rattle.plane.specs.Point.{Point, points, opposite}
 use Rattle.plane.specs.Refusal.{Valid}
-use Rattle.plane.specs.theory.lists.Next.{next-below}
-use Rattle.plane.specs.theory.sum.Positions.{edge_of}
+use Rattle.plane.proofs.theory.lists.Next.{next-below}
+use Rattle.plane.proofs.theory.sum.Positions.{edge_of}
 use Rattle.polygon.specs.Point.{Small}
 use Rattle.polygon.specs.theory.Small.{small-edge, small-wide}
 use Rattle.boxes.specs.Scan.{Climbs, Aimed}

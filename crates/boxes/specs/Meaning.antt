@@ -22,7 +22,7 @@ use Rattle.plane.specs.Question.{values, reply}
 use Rattle.strips.specs.Strip.{spread}
 use Rattle.strips.specs.OwnDirection.{out_of}
 use Rattle.growth.specs.Grown.{placed}
-use Rattle.strips.specs.theory.Answers.{three-answered}
+use Rattle.strips.proofs.theory.Answers.{three-answered}
 use Rattle.boxes.specs.Box.{around, half_round, NoLargerBox, box_numbers, ask_box}
 use Rattle.boxes.specs.theory.Compared.{box-no-larger, inside-around, mirrored-no-larger, no-larger-mirrored}
 use Rattle.boxes.specs.theory.Compared.{moved-no-larger, no-larger-moved}

@@ -23,7 +23,7 @@ use Rattle.plane.specs.Direction.{value}
 use Rattle.plane.specs.Forms.{NonZero}
 use Rattle.plane.specs.VectorSum.{vector_sum}
 use Rattle.plane.specs.Cut.{quarter}
-use Rattle.plane.specs.theory.forms.Vector.{value-origin, square-positive}
+use Rattle.plane.proofs.theory.forms.Vector.{value-origin, square-positive}
 use Rattle.calipers.specs.Walk.{Walk, here, begun, advanced, stepped, At}
 use Rattle.calipers.specs.theory.Steps.{at-stepped}
 use Rattle.separation.specs.theory.Stops.{on_below, over-end, corner-here, stop-here}

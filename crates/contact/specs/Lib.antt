@@ -1,3 +1,2 @@
 -- First contact as the code finds it: what it works on, then the theory. What contact is: crate `motion`.
 pub mod Share
-pub mod theory

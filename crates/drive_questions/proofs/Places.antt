@@ -7,7 +7,7 @@ use native.Mathlib.Omega.{arith}
 use Rattle.plane.specs.Limits.{max_coordinate}
 use Rattle.plane.specs.Point.{Point}
 use Rattle.plane.specs.Refusal.{some_outside}
-use Rattle.plane.specs.theory.refusals.Accept.{near→in_range}
+use Rattle.plane.proofs.theory.refusals.Accept.{near→in_range}
 use Rattle.polygon.specs.Point.{Small}
 
 pub in-range : (p : Point) → some_outside (p.x ∷ p.y ∷ []) ≡ false → Small max_coordinate p

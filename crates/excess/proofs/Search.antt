@@ -12,8 +12,8 @@ use Rattle.plane.specs.Shape.{IsShape}
 use Rattle.excess.specs.Excess.{outermost}
 use Rattle.excess.specs.Answer.{HasFar}
 use Rattle.excess.specs.declared.outermost.Far.{Far}
-use Rattle.excess.specs.theory.Outermost.{Furthest, furthest-start, furthest-keep, furthest-replace, furthest-done}
-use Rattle.excess.specs.theory.Found.{far-further, far-no-further}
+use Rattle.excess.proofs.theory.Outermost.{Furthest, furthest-start, furthest-keep, furthest-replace, furthest-done}
+use Rattle.excess.proofs.theory.Found.{far-further, far-no-further}
 
 pub record Searched (N O : List Point) (k : ℕ) (r : Far) : Type 0 where
   pub is-far : HasFar N O r.corner r

@@ -2,6 +2,4 @@
 pub mod Excess
 pub mod Answer
 pub mod Settled
-pub mod Meaning
 pub mod Cases
-pub mod theory

@@ -1,5 +1,3 @@
 -- Growing obstacles by a cart's outline: the definitions; what growing is for; cases; then its theory.
 pub mod Grown
-pub mod Growing
 pub mod Cases
-pub mod theory

@@ -9,5 +9,3 @@ pub mod Survey
 pub mod Marks
 pub mod Allowance
 pub mod Cases
-pub mod Meaning
-pub mod theory

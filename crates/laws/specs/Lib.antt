@@ -1,6 +1,3 @@
 -- Demand 3 of document 01: its definitions; its laws; the builds that they shut out; the laws of a sweep; then its theory.
 pub mod Grouping
-pub mod Laws
 pub mod Useless
-pub mod Sweep
-pub mod theory

@@ -16,7 +16,7 @@ use Rattle.plane.specs.Output.{Written, no_room, overwritten}
 use Rattle.plane.specs.Floor.{Floored, on, corners}
 use Rattle.plane.specs.Question.{reply, output}
 use Rattle.laws.specs.Grouping.{Call, sum_call, Gives, origin_point}
-use Rattle.laws.specs.Laws.{answered-sum}
+use Rattle.laws.proofs.Laws.{answered-sum}
 
 -- "the promise is an equation with its definition"
 abbrev pub Promised : Call → Type 0

@@ -19,8 +19,8 @@ use Rattle.plane.specs.Point.{Point, points, corner}
 use Rattle.plane.specs.Measure.{squared}
 use Rattle.plane.specs.Forms.{edges}
 use Rattle.plane.specs.Cycle.{corner_round}
-use Rattle.plane.specs.theory.forms.Squared.{squared-nonneg, squared-sym}
-use Rattle.plane.specs.theory.sum.Positions.{round-inner, edges-at-most}
+use Rattle.plane.proofs.theory.forms.Squared.{squared-nonneg, squared-sym}
+use Rattle.plane.proofs.theory.sum.Positions.{round-inner, edges-at-most}
 use Rattle.polygon.specs.Point.{at, Small}
 use Rattle.calipers.specs.Side.{corner_of}
 use Rattle.calipers.specs.declared.side.Side.{Side}

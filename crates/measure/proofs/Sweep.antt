@@ -16,7 +16,7 @@ use Rattle.plane.specs.Point.{Point, points, corner}
 use Rattle.plane.specs.Turn.{cross}
 use Rattle.plane.specs.Shape.{IsShape}
 use Rattle.plane.specs.Forms.{edges}
-use Rattle.plane.specs.theory.sum.Positions.{edges_some}
+use Rattle.plane.proofs.theory.sum.Positions.{edges_some}
 use Rattle.polygon.specs.Point.{at}
 use Rattle.calipers.specs.declared.side.Side.{Side}
 use Rattle.calipers.specs.Side.{next_of, onward, Carried}

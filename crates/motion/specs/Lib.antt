@@ -1,5 +1,3 @@
 -- First contact on a straight drive: the definitions; what they mean; cases; then the theory.
 pub mod Contact
-pub mod Meaning
 pub mod Cases
-pub mod theory

@@ -20,8 +20,8 @@ use Rattle.journal.specs.Reading.{damaged}
 use Rattle.journal.specs.Current.{around}
 use Rattle.journal.specs.Adding.{added}
 use Rattle.journal.specs.History.{Addition, fresh, after, is_finished}
-use Rattle.journal.specs.theory.Added.{unfinished-seen}
-use Rattle.journal.specs.theory.History.{fresh-sound, after-sound}
+use Rattle.journal.proofs.theory.Added.{unfinished-seen}
+use Rattle.journal.proofs.theory.History.{fresh-sound, after-sound}
 use Rattle.neighbours.specs.Nearest.{shape_of, nearest_of, ask_nearest}
 use Rattle.neighbours.specs.Settled.{IsNearest, told, is_closer, Quiet}
 use Rattle.neighbours.specs.theory.Settled.{nearest-is, nearest-only, nearest-answered, nobody-refused, same-records}

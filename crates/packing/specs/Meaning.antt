@@ -9,7 +9,7 @@ use Rattle.std.specs.Prelude.{◌≡◌, false, cond, List, [], ◌∷◌, ℕ, 
 use Rattle.std.proofs.Common.{sym, ◌∙◌, ap}
 use Rattle.plane.specs.Reply.{answered, refused, Row, NoneApply, First}
 use Rattle.plane.specs.Question.{reply, written}
-use Rattle.plane.specs.theory.refusals.Rows.{first_row-given, first_row-none, first_row-answered, first_row-refused}
+use Rattle.plane.proofs.theory.refusals.Rows.{first_row-given, first_row-none, first_row-answered, first_row-refused}
 use Rattle.journal.specs.Format.{records}
 use Rattle.journal.specs.Reading.{damaged, ask_read}
 use Rattle.journal.specs.Current.{current, keep, is_other, around, ask_entry}

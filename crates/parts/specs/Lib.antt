@@ -2,5 +2,3 @@
 pub mod Part
 pub mod Calls
 pub mod Cases
-pub mod Meaning
-pub mod theory

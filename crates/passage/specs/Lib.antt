@@ -1,6 +1,4 @@
 -- Passing between two obstacles: the definitions; what they mean; cases; then its theory.
 pub mod Passage
 pub mod Corridor
-pub mod Meaning
 pub mod Cases
-pub mod theory

@@ -27,5 +27,3 @@ pub mod Distance
 pub mod Floor
 pub mod Question
 pub mod Cases
-pub mod Meaning
-pub mod theory

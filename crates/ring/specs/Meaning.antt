@@ -15,7 +15,7 @@ use Rattle.plane.specs.Direction.{support}
 use Rattle.plane.specs.Corner.{Corner, shape_of}
 use Rattle.plane.specs.Floor.{on}
 use Rattle.plane.specs.Question.{reply}
-use Rattle.plane.specs.theory.lists.Sought.{some-found, first-true, first-least}
+use Rattle.plane.proofs.theory.lists.Sought.{some-found, first-true, first-least}
 use Rattle.ring.specs.Round.{last_of, head_of, closed, Apart}
 use Rattle.ring.specs.Ring.{open_ring, from_least, ring_corners, ring_shape, inward_at, first_inward, inward_row, ask_ring}
 use Rattle.ring.specs.theory.Under.{under_at, corners-under}

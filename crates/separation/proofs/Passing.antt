@@ -17,7 +17,7 @@ use Rattle.plane.specs.Turn.{cross}
 use Rattle.plane.specs.Shape.{next}
 use Rattle.plane.specs.Separation.{not_left}
 use Rattle.plane.specs.VectorSum.{vector_sum}
-use Rattle.plane.specs.theory.lists.Sought.{some-here}
+use Rattle.plane.proofs.theory.lists.Sought.{some-here}
 use Rattle.separation.specs.theory.Rim.{not_left-cross}
 use Rattle.calipers.specs.Walk.{Walk, here, begun, advanced, stepped, At}
 use Rattle.calipers.specs.theory.Steps.{at-stepped}

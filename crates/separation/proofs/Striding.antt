@@ -19,7 +19,7 @@ use Rattle.plane.specs.Point.{Point, points, ◌⊕◌}
 use Rattle.plane.specs.Turn.{cross}
 use Rattle.plane.specs.Forms.{edges}
 use Rattle.plane.specs.Cycle.{corner_round}
-use Rattle.plane.specs.theory.forms.Vector.{cross-origin}
+use Rattle.plane.proofs.theory.forms.Vector.{cross-origin}
 use Rattle.calipers.specs.declared.side.Side.{Side}
 use Rattle.calipers.specs.Side.{corner_of, next_of, onward, Carried, walk_of}
 use Rattle.calipers.specs.Walk.{begun, finished, advanced, At}

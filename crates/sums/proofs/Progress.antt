@@ -15,8 +15,8 @@ use lib.ListN.{length, take, drop, set, length-set}
 use lib.Seq.{length-take-le}
 use Rattle.plane.specs.Point.{Point, points, numbers, ◌⊕◌}
 use Rattle.plane.specs.Output.{overwritten}
-use Rattle.plane.specs.theory.lists.Flat.{numbers-length}
-use Rattle.plane.specs.theory.lists.Filled.{Filled, filled-start, filled-corner, filled-length, filled-done}
+use Rattle.plane.proofs.theory.lists.Flat.{numbers-length}
+use Rattle.plane.proofs.theory.lists.Filled.{Filled, filled-start, filled-corner, filled-length, filled-done}
 use Rattle.polygon.specs.Point.{stored}
 use Rattle.calipers.specs.declared.side.Side.{Side}
 use Rattle.sums.specs.declared.walk.Advance.{Advance}

@@ -19,8 +19,8 @@ use lib.Signed.{lt_z}
 use Rattle.plane.specs.Point.{Point, points, corner, origin, ◌⊕◌}
 use Rattle.plane.specs.Turn.{cross}
 use Rattle.plane.specs.Forms.{edges}
-use Rattle.plane.specs.theory.lists.Flat.{points-length}
-use Rattle.plane.specs.theory.sum.Positions.{edges-at-most}
+use Rattle.plane.proofs.theory.lists.Flat.{points-length}
+use Rattle.plane.proofs.theory.sum.Positions.{edges-at-most}
 use Rattle.calipers.specs.declared.side.Side.{Side}
 use Rattle.calipers.specs.Side.{corner_of, next_of, onward, Carried, walk_of}
 use Rattle.sums.specs.Advance.{state, side_of, next_corners, Walked}

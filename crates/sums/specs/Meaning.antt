@@ -9,7 +9,7 @@ use Rattle.plane.specs.Refusal.{Valid}
 use Rattle.plane.specs.Corner.{Corner, shape_of, sums}
 use Rattle.plane.specs.Forms.{edges}
 use Rattle.plane.specs.VectorSum.{shared}
-use Rattle.plane.specs.theory.lists.Members.{position-member}
+use Rattle.plane.proofs.theory.lists.Members.{position-member}
 use Rattle.calipers.specs.Places.{places, Visited}
 use Rattle.calipers.specs.Walk.{Walk, here, begun, stepped, ahead, remaining}
 use Rattle.sums.specs.PlaceAfter.{whole_sum, place_after, is_place}

@@ -5,5 +5,3 @@ pub mod Reading
 pub mod Reason
 pub mod Cases
 pub mod Test
-pub mod Meaning
-pub mod theory

@@ -6,7 +6,7 @@ use Rattle.plane.specs.Point.{points}
 use Rattle.plane.specs.Reply.{here, later}
 use Rattle.plane.specs.Refusal.{bad_count}
 use Rattle.plane.specs.Sweep.{too_many_points}
-use Rattle.plane.specs.theory.refusals.Points.{accepted→points}
+use Rattle.plane.proofs.theory.refusals.Points.{accepted→points}
 use Rattle.admission.specs.theory.Judged.{refuses, passes, turns-away}
 use Rattle.admission.proofs.admit_points.Goals as goal
 use Rattle.admission.proofs.admit_points.Goals.{Else-bad_count, Else-too_many_points}

@@ -4,7 +4,7 @@ use mathlib.Core.List.{[], ◌∷◌, ◌++◌}
 use borrow.Author.Rules.{rules}
 use Rattle.plane.specs.Refusal.{shape_rows, Valid}
 use Rattle.plane.specs.Floor.{Floored, on, floor_row}
-use Rattle.plane.specs.theory.refusals.Accept.{valid→accepted}
+use Rattle.plane.proofs.theory.refusals.Accept.{valid→accepted}
 use Rattle.admission.specs.Three.{floor_rows}
 use Rattle.admission.specs.theory.Judged.{refuses-append, refuses-join, turns-away}
 use Rattle.admission.specs.theory.Three.{floors-refused, then-last}

@@ -7,7 +7,7 @@ use borrow.Author.Rules.{rules}
 use Rattle.plane.specs.Point.{points}
 use Rattle.plane.specs.Reply.{refused, here, later}
 use Rattle.plane.specs.Refusal.{bad_count, too_many, some_outside, rule_broken}
-use Rattle.plane.specs.theory.refusals.Accept.{near→in_range, accepted→valid}
+use Rattle.plane.proofs.theory.refusals.Accept.{near→in_range, accepted→valid}
 use Rattle.polygon.proofs.LeftRule.{broken-found, broken-none}
 use Rattle.admission.specs.theory.Judged.{refuses, passes, turns-away}
 use Rattle.admission.proofs.blamed.Goals as goal

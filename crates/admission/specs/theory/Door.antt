@@ -10,8 +10,8 @@ use Rattle.plane.specs.Output.{overwritten}
 use Rattle.plane.specs.Refusal.{shape_rows, Valid}
 use Rattle.plane.specs.Floor.{Floored, floor_row, pair_rows, Same, rows_of, Admitted}
 use Rattle.plane.specs.Question.{Question, values, reply, output}
-use Rattle.plane.specs.theory.refusals.Accept.{valid→accepted}
-use Rattle.plane.specs.theory.refusals.Asked.{asked-given, asked-none, given-kept, none-wrote, shapes-given, rest-given, rest-none}
+use Rattle.plane.proofs.theory.refusals.Accept.{valid→accepted}
+use Rattle.plane.proofs.theory.refusals.Asked.{asked-given, asked-none, given-kept, none-wrote, shapes-given, rest-given, rest-none}
 use Rattle.admission.specs.declared.Admission.{Admission}
 use Rattle.admission.specs.Admission.{Refuses, Judged}
 use Rattle.admission.specs.theory.Judged.{refuses-join}

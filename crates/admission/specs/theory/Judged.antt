@@ -5,7 +5,7 @@
 use Rattle.std.specs.Prelude.{◌≡◌, refl, List, ◌++◌, ℕ}
 use Rattle.std.proofs.Common.{subst, arith}
 use Rattle.plane.specs.Reply.{Reply, refused, Row, NoneApply, First}
-use Rattle.plane.specs.theory.refusals.Rows.{first-append, first-join}
+use Rattle.plane.proofs.theory.refusals.Rows.{first-append, first-join}
 use Rattle.admission.specs.declared.answer.Refusal.{Refusal}
 use Rattle.admission.specs.declared.Admission.TheVariants as Admission
 use Rattle.admission.specs.Answer.{of_refusal}

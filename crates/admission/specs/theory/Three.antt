@@ -7,8 +7,8 @@ use Rattle.std.proofs.lemmas.Bool.{not-false}
 use Rattle.plane.specs.Reply.{Reply, Row, NoneApply}
 use Rattle.plane.specs.Refusal.{shape_rows, Valid}
 use Rattle.plane.specs.Floor.{Floored, floor_row}
-use Rattle.plane.specs.theory.refusals.Rows.{none-append, none-join}
-use Rattle.plane.specs.theory.refusals.Accept.{valid→accepted, accepted→valid}
+use Rattle.plane.proofs.theory.refusals.Rows.{none-append, none-join}
+use Rattle.plane.proofs.theory.refusals.Accept.{valid→accepted, accepted→valid}
 use Rattle.admission.specs.declared.Admission.{Admission}
 use Rattle.admission.specs.Admission.{Refuses, Judged}
 use Rattle.admission.specs.Three.{floor_rows, three_rows, SameThree}

@@ -13,8 +13,8 @@ use Rattle.integer.specs.Machine.{machine, known, machine-fits, machine-is, resu
 use Rattle.plane.specs.Point.{Point, points, corner}
 use Rattle.plane.specs.Turn.{cross}
 use Rattle.area.specs.Area.{twice_area}
-use Rattle.area.specs.theory.Partial.{partial, partial-start, partial-more, partial-all, partial-within, corners-within}
-use Rattle.area.specs.theory.Compared.{area-nonneg}
+use Rattle.area.proofs.theory.Partial.{partial, partial-start, partial-more, partial-all, partial-within, corners-within}
+use Rattle.area.proofs.theory.Compared.{area-nonneg}
 use Rattle.area.proofs.twice_area.Goals as goal
 use Rattle.area.proofs.twice_area.Goals.{After-cross_at-sum-in-loop-i, After-loop-i}
 

@@ -11,8 +11,8 @@ use Rattle.integer.specs.Machine.{machine, known, machine-fits, machine-is, resu
 use Rattle.plane.specs.Point.{Point, points, corner}
 use Rattle.plane.specs.Turn.{cross}
 use Rattle.area.specs.Area.{twice_area}
-use Rattle.area.specs.theory.Partial.{partial, partial-start, partial-more, partial-all, partial-within, corners-within}
-use Rattle.area.specs.theory.Compared.{area-nonneg}
+use Rattle.area.proofs.theory.Partial.{partial, partial-start, partial-more, partial-all, partial-within, corners-within}
+use Rattle.area.proofs.theory.Compared.{area-nonneg}
 use Rattle.area.proofs.twice_area.Given as goal
 
 abbrev pub invariant-loop-i : goal.invariant-loop-i

@@ -13,8 +13,8 @@ use Rattle.measure.specs.theory.Fractions.{fraction-trans}
 use Rattle.measure.specs.theory.Height.{edge_squared-positive}
 use Rattle.strips.specs.Strip.{least}
 use Rattle.strips.specs.OwnDirection.{out_of}
-use Rattle.strips.specs.theory.Outermost.{cross-outward, tied-edge}
-use Rattle.strips.specs.theory.Edges.{out-squared}
+use Rattle.strips.proofs.theory.Outermost.{cross-outward, tied-edge}
+use Rattle.strips.proofs.theory.Edges.{out-squared}
 use Rattle.boxes.specs.Box.{around, half_round, box_edge}
 use Rattle.boxes.specs.theory.Least.{no_larger-le, box-leading}
 use Rattle.boxes.specs.theory.Around.{around-edge, parallel-around}

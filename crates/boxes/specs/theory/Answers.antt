@@ -13,14 +13,14 @@ use Rattle.plane.specs.Measure.{edge_turn, height, edge_squared}
 use Rattle.plane.specs.Floor.{Floored}
 use Rattle.plane.specs.Question.{reply}
 use Rattle.plane.specs.Forms.{NonZero}
-use Rattle.plane.specs.theory.refusals.Asked.{asked-values}
-use Rattle.plane.specs.theory.sum.Positions.{edge_of, edge-turn}
+use Rattle.plane.proofs.theory.refusals.Asked.{asked-values}
+use Rattle.plane.proofs.theory.sum.Positions.{edge_of, edge-turn}
 use Rattle.measure.specs.theory.Height.{height-above, height-had, edge_squared-value}
 use Rattle.strips.specs.Strip.{spread}
 use Rattle.strips.specs.OwnDirection.{out_of}
-use Rattle.strips.specs.theory.Spread.{spread-above, spread-attained}
-use Rattle.strips.specs.theory.Edges.{out-spread}
-use Rattle.strips.specs.theory.Answers.{answered-three}
+use Rattle.strips.proofs.theory.Spread.{spread-above, spread-attained}
+use Rattle.strips.proofs.theory.Edges.{out-spread}
+use Rattle.strips.proofs.theory.Answers.{answered-three}
 use Rattle.boxes.specs.Box.{around, along, half_round, box_edge, box_numbers, ask_box}
 use Rattle.boxes.specs.theory.Least.{no_larger-le, larger-lt, box-leading}
 use Rattle.boxes.specs.theory.Across.{best-long}

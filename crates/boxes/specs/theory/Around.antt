@@ -14,14 +14,14 @@ use Rattle.plane.specs.Turn.{cross}
 use Rattle.plane.specs.Shape.{next, IsShape}
 use Rattle.plane.specs.Cut.{quarter, outward}
 use Rattle.plane.specs.Direction.{value}
-use Rattle.plane.specs.theory.lists.Members.{point-path}
-use Rattle.plane.specs.theory.forms.Vector.{value-nonneg}
+use Rattle.plane.proofs.theory.lists.Members.{point-path}
+use Rattle.plane.proofs.theory.forms.Vector.{value-nonneg}
 use Rattle.clearance.specs.theory.Bound.{lagrange}
 use Rattle.strips.specs.Strip.{spread}
 use Rattle.strips.specs.OwnDirection.{out_of}
-use Rattle.strips.specs.theory.Spread.{spread-above, spread-attained, spread-turned}
-use Rattle.strips.specs.theory.Parallel.{parallel-value}
-use Rattle.strips.specs.theory.Edges.{out-spread}
+use Rattle.strips.proofs.theory.Spread.{spread-above, spread-attained, spread-turned}
+use Rattle.strips.proofs.theory.Parallel.{parallel-value}
+use Rattle.strips.proofs.theory.Edges.{out-spread}
 use Rattle.boxes.specs.Box.{around, along, half_round}
 
 pub quarter-squared : (d : Point) → value (quarter d) (quarter d) ≡ value d d

@@ -17,12 +17,12 @@ use Rattle.plane.specs.Turn.{cross, turn, Left}
 use Rattle.plane.specs.Shape.{next, IsShape}
 use Rattle.plane.specs.Direction.{value, support, furthest}
 use Rattle.plane.specs.Face.{Furthest}
-use Rattle.plane.specs.theory.forms.Vector.{value-⊖}
-use Rattle.plane.specs.theory.lists.Members.{position-member, member-position}
-use Rattle.plane.specs.theory.lists.Next.{Following, onward, closing, following, next-below, preceding}
-use Rattle.plane.specs.theory.support.Support.{value-le-support, support-le}
-use Rattle.plane.specs.theory.face.FirstFurthest.{furthest-greatest}
-use Rattle.plane.specs.theory.sum.Positions.{edge-turn, next-left}
+use Rattle.plane.proofs.theory.forms.Vector.{value-⊖}
+use Rattle.plane.proofs.theory.lists.Members.{position-member, member-position}
+use Rattle.plane.proofs.theory.lists.Next.{Following, onward, closing, following, next-below, preceding}
+use Rattle.plane.proofs.theory.support.Support.{value-le-support, support-le}
+use Rattle.plane.proofs.theory.face.FirstFurthest.{furthest-greatest}
+use Rattle.plane.proofs.theory.sum.Positions.{edge-turn, next-left}
 use Rattle.separation.specs.theory.Sector.{sector-weak}
 use Rattle.boxes.specs.Scan.{Climbs}
 

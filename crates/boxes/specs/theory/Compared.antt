@@ -15,19 +15,19 @@ use Rattle.plane.specs.Measure.{edge_squared}
 use Rattle.plane.specs.Corner.{shape_of, mirrored}
 use Rattle.plane.specs.Cut.{quarter}
 use Rattle.plane.specs.Separation.{inside}
-use Rattle.plane.specs.theory.lists.Members.{mirrored-some}
-use Rattle.plane.specs.theory.forms.Vector.{opposite-opposite, value-turned}
-use Rattle.plane.specs.theory.support.Support.{support-mirrored}
-use Rattle.plane.specs.theory.hull.ShapeOf.{shape_of-support, shape_of-shape}
-use Rattle.plane.specs.theory.mirror.Mirror.{mirror-count}
+use Rattle.plane.proofs.theory.lists.Members.{mirrored-some}
+use Rattle.plane.proofs.theory.forms.Vector.{opposite-opposite, value-turned}
+use Rattle.plane.proofs.theory.support.Support.{support-mirrored}
+use Rattle.plane.proofs.theory.hull.ShapeOf.{shape_of-support, shape_of-shape}
+use Rattle.plane.proofs.theory.mirror.Mirror.{mirror-count}
 use Rattle.separation.specs.theory.Inside.{inside→reach}
 use Rattle.separation.specs.theory.Sector.{edge-nonzero}
 use Rattle.strips.specs.Strip.{least, spread}
 use Rattle.strips.specs.OwnDirection.{out_of}
-use Rattle.strips.specs.theory.Spread.{spread-nonneg}
-use Rattle.strips.specs.theory.Edges.{out-squared}
+use Rattle.strips.proofs.theory.Spread.{spread-nonneg}
+use Rattle.strips.proofs.theory.Edges.{out-squared}
 use Rattle.growth.specs.Grown.{placed}
-use Rattle.growth.specs.theory.Places.{placed-reach, placed-shape}
+use Rattle.growth.proofs.theory.Places.{placed-reach, placed-shape}
 use Rattle.boxes.specs.Box.{around, half_round, box_edge, NoLargerBox}
 use Rattle.boxes.specs.theory.Least.{box-leading}
 use Rattle.boxes.specs.theory.Around.{around-edge}

@@ -15,20 +15,20 @@ use Rattle.plane.specs.Measure.{edge_squared, width_edge}
 use Rattle.plane.specs.Corner.{shape_of, sums}
 use Rattle.plane.specs.Forms.{NonZero}
 use Rattle.plane.specs.Cut.{quarter}
-use Rattle.plane.specs.theory.lists.Members.{point-discrete, position-member, member-position, sums-member, sums-some, member-sums}
-use Rattle.plane.specs.theory.lists.Next.{next-below}
-use Rattle.plane.specs.theory.forms.Vector.{square-positive, value-⊕}
-use Rattle.plane.specs.theory.support.Support.{value-le-support, support-sums}
-use Rattle.plane.specs.theory.hull.ShapeOf.{shape_of-support, shape_of-shape, shape_of-corner}
+use Rattle.plane.proofs.theory.lists.Members.{point-discrete, position-member, member-position, sums-member, sums-some, member-sums}
+use Rattle.plane.proofs.theory.lists.Next.{next-below}
+use Rattle.plane.proofs.theory.forms.Vector.{square-positive, value-⊕}
+use Rattle.plane.proofs.theory.support.Support.{value-le-support, support-sums}
+use Rattle.plane.proofs.theory.hull.ShapeOf.{shape_of-support, shape_of-shape, shape_of-corner}
 use Rattle.separation.specs.theory.Sector.{edge-nonzero}
 use Rattle.measure.specs.theory.Fractions.{fraction-trans}
 use Rattle.measure.specs.theory.Narrowest.{width-narrowest}
 use Rattle.strips.specs.Strip.{least, spread}
 use Rattle.strips.specs.OwnDirection.{out_of}
-use Rattle.strips.specs.theory.Spread.{spread-above, spread-attained, spread-nonneg}
-use Rattle.strips.specs.theory.Outermost.{spread-out, Outermost, outermost}
-use Rattle.strips.specs.theory.Edges.{out-squared, out-spread}
-use Rattle.strips.specs.theory.WidthBound.{width-every}
+use Rattle.strips.proofs.theory.Spread.{spread-above, spread-attained, spread-nonneg}
+use Rattle.strips.proofs.theory.Outermost.{spread-out, Outermost, outermost}
+use Rattle.strips.proofs.theory.Edges.{out-squared, out-spread}
+use Rattle.strips.proofs.theory.WidthBound.{width-every}
 use Rattle.boxes.specs.Box.{around, half_round, box_edge}
 use Rattle.boxes.specs.theory.Around.{quarter-squared, around-quarter}
 use Rattle.boxes.specs.theory.Across.{NoSmaller, best-long, tied-no-smaller}

@@ -15,9 +15,9 @@ use Rattle.plane.specs.Shape.{next, IsShape}
 use Rattle.plane.specs.Turn.{cross}
 use Rattle.plane.specs.Direction.{value, support}
 use Rattle.plane.specs.Face.{Furthest}
-use Rattle.plane.specs.theory.forms.Vector.{turn-edges, cross-opposite, value-⊖, value-turned, value-nonneg}
-use Rattle.plane.specs.theory.lists.Next.{next-on}
-use Rattle.plane.specs.theory.sum.Positions.{edge_of, next-left}
+use Rattle.plane.proofs.theory.forms.Vector.{turn-edges, cross-opposite, value-⊖, value-turned, value-nonneg}
+use Rattle.plane.proofs.theory.lists.Next.{next-on}
+use Rattle.plane.proofs.theory.sum.Positions.{edge_of, next-left}
 use Rattle.measure.specs.theory.Height.{edge_squared-value, edge_squared-positive}
 use Rattle.strips.specs.Strip.{least, spread}
 use Rattle.boxes.specs.declared.jaws.Jaws.{Jaws}

@@ -12,7 +12,7 @@ use Rattle.plane.specs.Point.{Point}
 use Rattle.plane.specs.Search.{every}
 use Rattle.plane.specs.Shape.{IsShape}
 use Rattle.plane.specs.Measure.{edge_squared}
-use Rattle.plane.specs.theory.lists.Sought.{first-unique, all-every, not-every, true-not-false}
+use Rattle.plane.proofs.theory.lists.Sought.{first-unique, all-every, not-every, true-not-false}
 use Rattle.measure.specs.theory.Fractions.{squares-refl, squares-total, squares-trans, squares-numbers}
 use Rattle.measure.specs.theory.Height.{edge_squared-positive}
 use Rattle.boxes.specs.Box.{half_round, no_larger, box_edge}

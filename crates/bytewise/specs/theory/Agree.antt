@@ -12,9 +12,9 @@ use Rattle.plane.specs.Point.{Point, numbers}
 use Rattle.plane.specs.Reply.{answered, refused, Row, row, NoneApply, First, here}
 use Rattle.plane.specs.Output.{overwritten}
 use Rattle.plane.specs.Question.{Question, table, values, reply}
-use Rattle.plane.specs.theory.refusals.Rows.{Outcome, given, passed, outcome, first-append, first-join, none-join}
-use Rattle.plane.specs.theory.refusals.Rows.{given-output, none-output}
-use Rattle.plane.specs.theory.refusals.Asked.{asked-given, asked-none}
+use Rattle.plane.proofs.theory.refusals.Rows.{Outcome, given, passed, outcome, first-append, first-join, none-join}
+use Rattle.plane.proofs.theory.refusals.Rows.{given-output, none-output}
+use Rattle.plane.proofs.theory.refusals.Asked.{asked-given, asked-none}
 use Rattle.endian.specs.Bytes.{words}
 use Rattle.bytewise.specs.Bytes.{bytes_after}
 

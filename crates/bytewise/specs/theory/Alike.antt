@@ -11,8 +11,8 @@ use Rattle.plane.specs.Reply.{Row, here, later}
 use Rattle.plane.specs.Refusal.{bad_count, too_many, shape_rows}
 use Rattle.plane.specs.Floor.{on, Shapes, one_shape, two_shapes, floor_row, rows_of}
 use Rattle.plane.specs.Question.{Question, table, values, reply}
-use Rattle.plane.specs.theory.lists.Flat.{points-length}
-use Rattle.plane.specs.theory.refusals.Accept.{count-good}
+use Rattle.plane.proofs.theory.lists.Flat.{points-length}
+use Rattle.plane.proofs.theory.refusals.Accept.{count-good}
 use Rattle.endian.specs.Bytes.{words_at}
 use Rattle.endian.specs.theory.Bytes.{words_at-length}
 use Rattle.wire.specs.Told.{crossed}

@@ -21,10 +21,10 @@ use Rattle.plane.specs.Turn.{cross}
 use Rattle.plane.specs.Refusal.{InRange}
 use Rattle.plane.specs.Forms.{edges}
 use Rattle.plane.specs.Limits.{coordinate-small}
-use Rattle.plane.specs.theory.forms.Vector.{cross-swap}
-use Rattle.plane.specs.theory.lists.Sought.{tests_agree}
-use Rattle.plane.specs.theory.sum.Positions.{shape-in-order, round-within, edges-at-most}
-use Rattle.plane.specs.theory.lists.Flat.{points_near}
+use Rattle.plane.proofs.theory.forms.Vector.{cross-swap}
+use Rattle.plane.proofs.theory.lists.Sought.{tests_agree}
+use Rattle.plane.proofs.theory.sum.Positions.{shape-in-order, round-within, edges-at-most}
+use Rattle.plane.proofs.theory.lists.Flat.{points_near}
 use Rattle.polygon.specs.Point.{Small}
 use Rattle.calipers.specs.declared.side.Side.{Side}
 use Rattle.calipers.specs.Side.{corner_of, next_of, onward, Carried, walk_of}

@@ -13,13 +13,13 @@ use Rattle.plane.specs.Point.{Point, corner, origin}
 use Rattle.plane.specs.Turn.{cross}
 use Rattle.plane.specs.Shape.{next, IsShape}
 use Rattle.plane.specs.Forms.{Before, Precedes, InOrder, edges}
-use Rattle.plane.specs.theory.forms.Angle.{Earlier, apart, alike, before→earlier}
-use Rattle.plane.specs.theory.forms.HalfPlane.{Up, up-clash, down-up, precedes→up, cross-trans-weak}
-use Rattle.plane.specs.theory.forms.SameWay.{same-flat}
-use Rattle.plane.specs.theory.forms.Standard.{all-at, shape→ordered}
-use Rattle.plane.specs.theory.forms.Vector.{cross-swap, cross-turned, turn-edges, cross-origin}
-use Rattle.plane.specs.theory.lists.Next.{next-below}
-use Rattle.plane.specs.theory.sum.Positions.{edge_at, edge-corners, edge-turn, in-order-non-zero}
+use Rattle.plane.proofs.theory.forms.Angle.{Earlier, apart, alike, before→earlier}
+use Rattle.plane.proofs.theory.forms.HalfPlane.{Up, up-clash, down-up, precedes→up, cross-trans-weak}
+use Rattle.plane.proofs.theory.forms.SameWay.{same-flat}
+use Rattle.plane.proofs.theory.forms.Standard.{all-at, shape→ordered}
+use Rattle.plane.proofs.theory.forms.Vector.{cross-swap, cross-turned, turn-edges, cross-origin}
+use Rattle.plane.proofs.theory.lists.Next.{next-below}
+use Rattle.plane.proofs.theory.sum.Positions.{edge_at, edge-corners, edge-turn, in-order-non-zero}
 use Rattle.calipers.specs.Places.{passed, Standing}
 use Rattle.calipers.specs.theory.Standing.{Taken, taken-same, Step, ended, left, right, both, step, passed-taken}
 use Rattle.calipers.specs.theory.Standing.{passed-ended, passed-waits, standing-swap}

@@ -8,11 +8,11 @@ use Rattle.plane.specs.Shape.{IsShape}
 use Rattle.plane.specs.Corner.{shape_of, sums}
 use Rattle.plane.specs.Forms.{edges, Sorted}
 use Rattle.plane.specs.VectorSum.{along, path, join_edges, vector_sum, shared}
-use Rattle.plane.specs.theory.sum.Path.{along-length}
-use Rattle.plane.specs.theory.forms.Standard.{shape→sorted}
-use Rattle.plane.specs.theory.sum.EdgeSum.{Joined, no-left, no-right, take_left, take-right, take-both, joined}
-use Rattle.plane.specs.theory.sum.EdgeSum.{join_edges-comm, vector_sum-shape}
-use Rattle.plane.specs.theory.sum.EdgeCount.{join_edges-count}
+use Rattle.plane.proofs.theory.sum.Path.{along-length}
+use Rattle.plane.proofs.theory.forms.Standard.{shape→sorted}
+use Rattle.plane.proofs.theory.sum.EdgeSum.{Joined, no-left, no-right, take_left, take-right, take-both, joined}
+use Rattle.plane.proofs.theory.sum.EdgeSum.{join_edges-comm, vector_sum-shape}
+use Rattle.plane.proofs.theory.sum.EdgeCount.{join_edges-count}
 
 -- joined, there are at least as many edges as in either list
 left_le : {E F G : List Point} → Joined E F G → length E ≤ length G

@@ -10,10 +10,10 @@ use Rattle.plane.specs.Shape.{IsShape}
 use Rattle.plane.specs.Direction.{value, support}
 use Rattle.plane.specs.Forms.{before, edges}
 use Rattle.plane.specs.Cycle.{corner_round}
-use Rattle.plane.specs.theory.forms.Vector.{total, value-⊕}
-use Rattle.plane.specs.theory.forms.Standard.{shape→sorted}
-use Rattle.plane.specs.theory.sum.Cut.{to_cut, to_cut-take, to_cut-leave, value-to_cut, cut-formula}
-use Rattle.plane.specs.theory.sum.Positions.{shape-in-order, round-total}
+use Rattle.plane.proofs.theory.forms.Vector.{total, value-⊕}
+use Rattle.plane.proofs.theory.forms.Standard.{shape→sorted}
+use Rattle.plane.proofs.theory.sum.Cut.{to_cut, to_cut-take, to_cut-leave, value-to_cut, cut-formula}
+use Rattle.plane.proofs.theory.sum.Positions.{shape-in-order, round-total}
 use Rattle.calipers.specs.Places.{Standing}
 use Rattle.calipers.specs.theory.Standing.{Taken, taken-before, taken-after}
 

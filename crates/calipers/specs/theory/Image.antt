@@ -13,15 +13,15 @@ use Rattle.plane.specs.Refusal.{Valid}
 use Rattle.plane.specs.Corner.{shape_of, mirrored}
 use Rattle.plane.specs.Forms.{edges}
 use Rattle.plane.specs.Cycle.{round, corner_round, turned}
-use Rattle.plane.specs.theory.forms.Vector.{step_back}
-use Rattle.plane.specs.theory.hull.ShapeOf.{shape_of-shape}
-use Rattle.plane.specs.theory.lists.Flat.{points-numbers, numbers-length}
-use Rattle.plane.specs.theory.lists.Members.{mirrored-some}
-use Rattle.plane.specs.theory.lists.Turned.{turned-start}
-use Rattle.plane.specs.theory.mirror.Mirror.{mirror-known, mirror-count, mirrored_from-at}
-use Rattle.plane.specs.theory.mirror.MirrorSize.{mirror-few, mirror-near}
-use Rattle.plane.specs.theory.refusals.Accept.{few-corners, near→in_range}
-use Rattle.plane.specs.theory.sum.Positions.{edges_some, edges_few, round-inner, round-within, round-step}
+use Rattle.plane.proofs.theory.forms.Vector.{step_back}
+use Rattle.plane.proofs.theory.hull.ShapeOf.{shape_of-shape}
+use Rattle.plane.proofs.theory.lists.Flat.{points-numbers, numbers-length}
+use Rattle.plane.proofs.theory.lists.Members.{mirrored-some}
+use Rattle.plane.proofs.theory.lists.Turned.{turned-start}
+use Rattle.plane.proofs.theory.mirror.Mirror.{mirror-known, mirror-count, mirrored_from-at}
+use Rattle.plane.proofs.theory.mirror.MirrorSize.{mirror-few, mirror-near}
+use Rattle.plane.proofs.theory.refusals.Accept.{few-corners, near→in_range}
+use Rattle.plane.proofs.theory.sum.Positions.{edges_some, edges_few, round-inner, round-within, round-step}
 use Rattle.polygon.specs.Peak.{Peak}
 use Rattle.polygon.specs.Point.{Small}
 use Rattle.polygon.specs.theory.Peak.{peak-last}

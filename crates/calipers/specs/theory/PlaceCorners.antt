@@ -10,11 +10,11 @@ use mathlib.Core.List.Memᴰ
 use mathlib.Core.List.{List, [], ◌∷◌, map, Memᴰ}
 use Rattle.plane.specs.Point.{Point, origin, corner, ◌⊕◌}
 use Rattle.plane.specs.Forms.{edges}
-use Rattle.plane.specs.theory.forms.Vector.{⊕-assoc, ⊕-comm, ⊕-swap}
+use Rattle.plane.proofs.theory.forms.Vector.{⊕-assoc, ⊕-comm, ⊕-swap}
 use Rattle.plane.specs.VectorSum.{along, path, join_edges, vector_sum}
-use Rattle.plane.specs.theory.sum.EdgeSum.{Joined, no-left, no-right, take_left, take-right, take-both, joined}
+use Rattle.plane.proofs.theory.sum.EdgeSum.{Joined, no-left, no-right, take_left, take-right, take-both, joined}
 use Rattle.plane.specs.Cycle.{corner_round}
-use Rattle.plane.specs.theory.sum.Positions.{round-inner, round-step}
+use Rattle.plane.proofs.theory.sum.Positions.{round-inner, round-step}
 use Rattle.calipers.specs.Places.{Place, place, steps_right, steps, places_from, places}
 use Rattle.calipers.specs.theory.Places.{steps-left, steps-right, steps-both}
 

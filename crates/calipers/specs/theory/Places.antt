@@ -12,8 +12,8 @@ use Rattle.std.proofs.Common.{sym, ◌∙◌, ap, add-one, arith, ltb-true, ltb-
 use Rattle.std.proofs.lemmas.Bool.{false≢true}
 use Rattle.plane.specs.Point.{Point, origin, corner}
 use Rattle.plane.specs.Forms.{before, Before}
-use Rattle.plane.specs.theory.lists.Sought.{true-not-false}
-use Rattle.plane.specs.theory.forms.Angle.{before-reversed}
+use Rattle.plane.proofs.theory.lists.Sought.{true-not-false}
+use Rattle.plane.proofs.theory.forms.Angle.{before-reversed}
 use Rattle.calipers.specs.Places.{takes, passed}
 use Rattle.calipers.specs.theory.Standing.{takes-taken, passed-taken, passed-ended, passed-waits, Step}
 use Rattle.calipers.specs.theory.Standing.{ended, left, right, both, step}

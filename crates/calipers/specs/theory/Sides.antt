@@ -13,9 +13,9 @@ use Rattle.plane.specs.Shape.{next}
 use Rattle.plane.specs.Refusal.{InRange}
 use Rattle.plane.specs.Forms.{edges}
 use Rattle.plane.specs.Cycle.{round, corner_round}
-use Rattle.plane.specs.theory.lists.Next.{next-below}
-use Rattle.plane.specs.theory.sum.Positions.{round-inner, round-within, round-step, edge_at, edge-corners}
-use Rattle.plane.specs.theory.sum.Positions.{edges-at-most, edges_some, edges_few}
+use Rattle.plane.proofs.theory.lists.Next.{next-below}
+use Rattle.plane.proofs.theory.sum.Positions.{round-inner, round-within, round-step, edge_at, edge-corners}
+use Rattle.plane.proofs.theory.sum.Positions.{edges-at-most, edges_some, edges_few}
 use Rattle.polygon.specs.Point.{Small}
 use Rattle.polygon.specs.theory.Small.{small-corner, small-edge, small-wide}
 use Rattle.calipers.specs.declared.side.Side.{Side}

@@ -14,10 +14,10 @@ use Rattle.std.proofs.lemmas.Bool.{false≢true}
 use Rattle.plane.specs.Direction.{SameWay}
 use Rattle.plane.specs.Point.{Point, corner}
 use Rattle.plane.specs.Forms.{before, Before, InOrder}
-use Rattle.plane.specs.theory.lists.Sought.{true-not-false}
-use Rattle.plane.specs.theory.forms.Angle.{before-trans, before-reversed}
-use Rattle.plane.specs.theory.forms.SameWay.{same_left, neither-same}
-use Rattle.plane.specs.theory.sum.Positions.{in-order-at, in-order-non-zero}
+use Rattle.plane.proofs.theory.lists.Sought.{true-not-false}
+use Rattle.plane.proofs.theory.forms.Angle.{before-trans, before-reversed}
+use Rattle.plane.proofs.theory.forms.SameWay.{same_left, neither-same}
+use Rattle.plane.proofs.theory.sum.Positions.{in-order-at, in-order-non-zero}
 use Rattle.calipers.specs.Places.{takes, passed, Standing}
 
 -- ---- what the next step passes

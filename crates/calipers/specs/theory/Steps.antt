@@ -16,7 +16,7 @@ use Rattle.plane.specs.Refusal.{Valid}
 use Rattle.plane.specs.Forms.{edges}
 use Rattle.plane.specs.VectorSum.{path, join_edges, vector_sum}
 use Rattle.plane.specs.Cycle.{corner_round}
-use Rattle.plane.specs.theory.sum.Positions.{shape-in-order}
+use Rattle.plane.proofs.theory.sum.Positions.{shape-in-order}
 use Rattle.calipers.specs.Places.{place, places_from, places}
 use Rattle.calipers.specs.theory.Places.{places-here}
 use Rattle.calipers.specs.theory.PlaceCorners.{corner_at, places_from-corners}

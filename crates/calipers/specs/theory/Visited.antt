@@ -12,14 +12,14 @@ use Rattle.plane.specs.Shape.{IsShape}
 use Rattle.plane.specs.Direction.{value}
 use Rattle.plane.specs.Corner.{Corner, sums}
 use Rattle.plane.specs.Forms.{edges}
-use Rattle.plane.specs.theory.lists.Members.{point-path, point-discrete, sums-member, position-member}
-use Rattle.plane.specs.theory.forms.Vector.{value-⊕, ⊕-comm}
-use Rattle.plane.specs.theory.support.Support.{value-le-support}
-use Rattle.plane.specs.theory.support.Corners.{corner-support}
-use Rattle.plane.specs.theory.hull.ShapeOf.{corner-shape_of}
-use Rattle.plane.specs.theory.sum.EdgeSum.{vector_sum-shape}
+use Rattle.plane.proofs.theory.lists.Members.{point-path, point-discrete, sums-member, position-member}
+use Rattle.plane.proofs.theory.forms.Vector.{value-⊕, ⊕-comm}
+use Rattle.plane.proofs.theory.support.Support.{value-le-support}
+use Rattle.plane.proofs.theory.support.Corners.{corner-support}
+use Rattle.plane.proofs.theory.hull.ShapeOf.{corner-shape_of}
+use Rattle.plane.proofs.theory.sum.EdgeSum.{vector_sum-shape}
 use Rattle.plane.specs.Cycle.{round}
-use Rattle.plane.specs.theory.sum.Positions.{round-within, edges-at-most, corner-injective}
+use Rattle.plane.proofs.theory.sum.Positions.{round-within, edges-at-most, corner-injective}
 use Rattle.calipers.specs.Places.{Place, places, Visited}
 use Rattle.calipers.specs.theory.PlaceCorners.{corner_at, places-corners, places-pass}
 

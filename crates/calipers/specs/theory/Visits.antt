@@ -7,9 +7,9 @@ use Rattle.std.proofs.Common.{◌∙◌, subst}
 use Rattle.plane.specs.Point.{Point, points, ◌∈◌}
 use Rattle.plane.specs.Refusal.{Valid}
 use Rattle.plane.specs.Corner.{Corner, shape_of, sums}
-use Rattle.plane.specs.theory.lists.Members.{sums-some, position-member}
-use Rattle.plane.specs.theory.hull.ShapeOf.{shape_of-corner}
-use Rattle.plane.specs.theory.sum.EdgeSum.{vector_sum-shape}
+use Rattle.plane.proofs.theory.lists.Members.{sums-some, position-member}
+use Rattle.plane.proofs.theory.hull.ShapeOf.{shape_of-corner}
+use Rattle.plane.proofs.theory.sum.EdgeSum.{vector_sum-shape}
 use Rattle.calipers.specs.Walk.{here, begun, stepped, remaining}
 use Rattle.calipers.specs.theory.Steps.{remaining-begin, at-begin, here-stepped}
 

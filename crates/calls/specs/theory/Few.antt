@@ -8,10 +8,10 @@ use Rattle.std.proofs.Common.{sym, subst, true≢false, arith, leb-true, length-
 use Rattle.plane.specs.Limits.{max_corners}
 use Rattle.plane.specs.Point.{Point, points}
 use Rattle.plane.specs.Refusal.{Valid}
-use Rattle.plane.specs.theory.lists.Flat.{points-length}
-use Rattle.plane.specs.theory.sweep.Few.{shape_of-few}
-use Rattle.plane.specs.theory.sum.EdgeSum.{vector_sum-shape}
-use Rattle.plane.specs.theory.refusals.Accept.{few-corners}
+use Rattle.plane.proofs.theory.lists.Flat.{points-length}
+use Rattle.plane.proofs.theory.sweep.Few.{shape_of-few}
+use Rattle.plane.proofs.theory.sum.EdgeSum.{vector_sum-shape}
+use Rattle.plane.proofs.theory.refusals.Accept.{few-corners}
 use Rattle.separation.specs.theory.Stops.{sum-length}
 use Rattle.bytewise.specs.Passing.{small_bytes, Enough, Spacious, Holds, combined}
 

@@ -14,8 +14,8 @@ use Rattle.plane.specs.Separation.{apart, touching, relation_number}
 use Rattle.plane.specs.Output.{room_row, answer_rows}
 use Rattle.plane.specs.Floor.{Floored, corners, two_shapes, floor_row, pair_rows}
 use Rattle.plane.specs.Question.{reply, makes, ask_judge, ask_relation}
-use Rattle.plane.specs.theory.lists.Sought.{first-le}
-use Rattle.plane.specs.theory.refusals.Accept.{few-corners}
+use Rattle.plane.proofs.theory.lists.Sought.{first-le}
+use Rattle.plane.proofs.theory.refusals.Accept.{few-corners}
 use Rattle.crossing.specs.LowFloor.{low_floor}
 use Rattle.bytewise.specs.Packing.{Fits}
 

@@ -9,8 +9,8 @@ use Rattle.plane.specs.Reply.{Reply, Row, row, NoneApply}
 use Rattle.plane.specs.Refusal.{shape_rows}
 use Rattle.plane.specs.Floor.{Floored, pair_rows}
 use Rattle.plane.specs.Question.{Question, table, reply}
-use Rattle.plane.specs.theory.refusals.Rows.{none-append, first_row-given, first_row-none, Outcome, given, passed, outcome}
-use Rattle.plane.specs.theory.refusals.Asked.{asked-none}
+use Rattle.plane.proofs.theory.refusals.Rows.{none-append, first_row-given, first_row-none, Outcome, given, passed, outcome}
+use Rattle.plane.proofs.theory.refusals.Asked.{asked-none}
 use Rattle.separator.specs.Separator.{SeparatorBetween, ask_separator}
 use Rattle.separator.specs.declared.Separator.TheVariants.{Nothing}
 use Rattle.wire.specs.Told.{crossed}

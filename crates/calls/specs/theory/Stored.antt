@@ -25,10 +25,10 @@ use Rattle.plane.specs.Refusal.{too_many}
 use Rattle.plane.specs.Output.{no_room, size_rows, answer_rows, overwritten}
 use Rattle.plane.specs.Floor.{Shapes, rows_of, floor_of}
 use Rattle.plane.specs.Question.{Question, table, reply, output, makes}
-use Rattle.plane.specs.theory.lists.Flat.{numbers-length}
-use Rattle.plane.specs.theory.refusals.Accept.{few-corners, near→in_range}
-use Rattle.plane.specs.theory.refusals.Rows.{Outcome, given, passed, outcome, none-append, given-output, none-output}
-use Rattle.plane.specs.theory.refusals.Asked.{asked-given, asked-none, asked-refused, asked-answered, asked-values, asked-rest, none-wrote}
+use Rattle.plane.proofs.theory.lists.Flat.{numbers-length}
+use Rattle.plane.proofs.theory.refusals.Accept.{few-corners, near→in_range}
+use Rattle.plane.proofs.theory.refusals.Rows.{Outcome, given, passed, outcome, none-append, given-output, none-output}
+use Rattle.plane.proofs.theory.refusals.Asked.{asked-given, asked-none, asked-refused, asked-answered, asked-values, asked-rest, none-wrote}
 use Rattle.endian.specs.Bytes.{words, words_at}
 use Rattle.endian.specs.theory.Bytes.{words-length, words_at-length, words_at-words}
 use Rattle.wire.specs.Told.{crossed}

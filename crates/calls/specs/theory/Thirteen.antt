@@ -14,8 +14,8 @@ use Rattle.plane.specs.Refusal.{shape_rows, Valid}
 use Rattle.plane.specs.Floor.{Floored, corners, Shapes, no_shape, one_shape, two_shapes, many_points}
 use Rattle.plane.specs.Floor.{floor_row, rows_of, floor_of, Admitted}
 use Rattle.plane.specs.Question.{Question, table, values, reply, output}
-use Rattle.plane.specs.theory.refusals.Rows.{first_row-none, Outcome, given, passed, outcome}
-use Rattle.plane.specs.theory.refusals.Asked.{admitted→none, asked-given, asked-none, asked-rest, shapes-given}
+use Rattle.plane.proofs.theory.refusals.Rows.{first_row-none, Outcome, given, passed, outcome}
+use Rattle.plane.proofs.theory.refusals.Asked.{admitted→none, asked-given, asked-none, asked-rest, shapes-given}
 use Rattle.separator.specs.Separator.{Finds, separator_numbers, ask_separator}
 use Rattle.separator.specs.declared.Separator.{Separator}
 use Rattle.separator.specs.declared.Separator.TheVariants.{Direction, Nothing}

@@ -13,8 +13,8 @@ use Rattle.plane.specs.Point.{Point, origin, ◌⊕◌, ◌⊖◌, ◌∈◌}
 use Rattle.plane.specs.Turn.{turn, cross}
 use Rattle.plane.specs.Direction.{value}
 use Rattle.plane.specs.Mean.{times}
-use Rattle.plane.specs.theory.lists.Members.{point-discrete}
-use Rattle.plane.specs.theory.forms.Vector.{value-origin, square-positive}
+use Rattle.plane.proofs.theory.lists.Members.{point-discrete}
+use Rattle.plane.proofs.theory.forms.Vector.{value-origin, square-positive}
 
 -- ---- values and products along the segment from w to d
 

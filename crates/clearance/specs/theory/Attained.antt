@@ -15,10 +15,10 @@ use Rattle.plane.specs.Direction.{value}
 use Rattle.plane.specs.Measure.{squared, edge_squared}
 use Rattle.plane.specs.Mean.{times, weight, heap, gap, Exactly}
 use Rattle.plane.specs.Clearance.{falls_on, Candidate, corners, on_second, on_first, top, bottom}
-use Rattle.plane.specs.theory.lists.Members.{point-path}
-use Rattle.plane.specs.theory.lists.Next.{next-below}
+use Rattle.plane.proofs.theory.lists.Members.{point-path}
+use Rattle.plane.proofs.theory.lists.Next.{next-below}
 use Rattle.plane.specs.Cut.{quarter}
-use Rattle.plane.specs.theory.forms.Squared.{squared-value}
+use Rattle.plane.proofs.theory.forms.Squared.{squared-value}
 use Rattle.clearance.specs.Order.{Listed}
 use Rattle.clearance.specs.theory.Bound.{falls-inside}
 use Rattle.clearance.specs.theory.Means.{unit, two}

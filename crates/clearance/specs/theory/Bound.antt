@@ -16,8 +16,8 @@ use Rattle.plane.specs.Turn.{turn, cross, turn-cross}
 use Rattle.plane.specs.Direction.{value}
 use Rattle.plane.specs.Measure.{squared}
 use Rattle.plane.specs.Clearance.{falls}
-use Rattle.plane.specs.theory.forms.Vector.{value-⊖, value-sym}
-use Rattle.plane.specs.theory.forms.Squared.{squared-sym, squared-value}
+use Rattle.plane.proofs.theory.forms.Vector.{value-⊖, value-sym}
+use Rattle.plane.proofs.theory.forms.Squared.{squared-sym, squared-value}
 
 pub lagrange : (u v : Point) → value u v *ℤ value u v +ℤ cross u v *ℤ cross u v ≡ value u u *ℤ value v v
 unfolding value cross

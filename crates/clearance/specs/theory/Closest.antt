@@ -17,7 +17,7 @@ use Rattle.plane.specs.Point.{Point, ◌⊕◌, ◌⊖◌, ◌∈◌}
 use Rattle.plane.specs.Turn.{turn, cross}
 use Rattle.plane.specs.Direction.{value}
 use Rattle.plane.specs.Mean.{times}
-use Rattle.plane.specs.theory.forms.Vector.{cross-swap, value-sym}
+use Rattle.plane.proofs.theory.forms.Vector.{cross-swap, value-sym}
 use Rattle.clearance.specs.theory.Segments.{near, under, Inside, View, is-inside, past_first}
 use Rattle.clearance.specs.theory.Segments.{past-second, view, span, area, inside-span}
 use Rattle.clearance.specs.theory.Segments.{NoFurther, Nearest, nearest-segment, self-bound, segment-bound}

@@ -13,8 +13,8 @@ use Rattle.plane.specs.Point.{Point, corner, opposite}
 use Rattle.plane.specs.Shape.{next, IsShape}
 use Rattle.plane.specs.Forms.{NonZero}
 use Rattle.plane.specs.Clearance.{Candidate, corners, on_second, on_first, nearest}
-use Rattle.plane.specs.theory.lists.Members.{position-member}
-use Rattle.plane.specs.theory.forms.Vector.{opposite-opposite, below-non-zero}
+use Rattle.plane.proofs.theory.lists.Members.{position-member}
+use Rattle.plane.proofs.theory.forms.Vector.{opposite-opposite, below-non-zero}
 use Rattle.clearance.specs.Order.{Sooner, Earlier}
 use Rattle.clearance.specs.Facing.{Lowest, Foot, Across, Reached, Facing}
 use Rattle.clearance.specs.Faces.{IsFace, is_end, is_along, is_foot, picked_of, tried}

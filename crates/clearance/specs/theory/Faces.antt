@@ -15,8 +15,8 @@ use Rattle.plane.specs.Shape.{next, IsShape}
 use Rattle.plane.specs.Direction.{value}
 use Rattle.plane.specs.Measure.{squared}
 use Rattle.plane.specs.Clearance.{falls, falls_on, Candidate, corners, on_second, on_first}
-use Rattle.plane.specs.theory.forms.Vector.{value-⊖, turned-back, turned_lt}
-use Rattle.plane.specs.theory.forms.Squared.{squared-value}
+use Rattle.plane.proofs.theory.forms.Vector.{value-⊖, turned-back, turned_lt}
+use Rattle.plane.proofs.theory.forms.Squared.{squared-value}
 use Rattle.clearance.specs.Facing.{Lowest, Reached}
 use Rattle.clearance.specs.theory.First.{lowest-twice, turned-square}
 use Rattle.clearance.specs.theory.Along.{by-edge}

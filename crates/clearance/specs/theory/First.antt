@@ -17,9 +17,9 @@ use Rattle.plane.specs.Shape.{next}
 use Rattle.plane.specs.Direction.{value}
 use Rattle.plane.specs.Measure.{squared, edge_squared}
 use Rattle.plane.specs.Clearance.{Candidate, corners, on_second, on_first, top, bottom, no_further, nearest}
-use Rattle.plane.specs.theory.lists.Members.{position-member}
-use Rattle.plane.specs.theory.lists.Next.{next-below}
-use Rattle.plane.specs.theory.forms.Vector.{value-turned, square-positive, opposite-opposite, below-non-zero}
+use Rattle.plane.proofs.theory.lists.Members.{position-member}
+use Rattle.plane.proofs.theory.lists.Next.{next-below}
+use Rattle.plane.proofs.theory.forms.Vector.{value-turned, square-positive, opposite-opposite, below-non-zero}
 use Rattle.clearance.specs.Order.{Earlier, AtOrAfter, itself, after, Listed}
 use Rattle.clearance.specs.Facing.{Lowest, Reached, Facing}
 use Rattle.clearance.specs.theory.Candidates.{least-listed, least-passes, least_first}

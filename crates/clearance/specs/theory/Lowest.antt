@@ -14,13 +14,13 @@ use Rattle.plane.specs.Shape.{next, IsShape}
 use Rattle.plane.specs.Direction.{value}
 use Rattle.plane.specs.Forms.{NonZero}
 use Rattle.plane.specs.Face.{face_first, face_last, Furthest, Face}
-use Rattle.plane.specs.theory.lists.Members.{position-member, member-position}
-use Rattle.plane.specs.theory.lists.Next.{Following, onward, closing, following, next-below, one-or-next}
-use Rattle.plane.specs.theory.forms.Vector.{opposite-non-zero, turned_le, turned-back, positive-non-zero}
-use Rattle.plane.specs.theory.support.Support.{value-le-support, support-unique}
-use Rattle.plane.specs.theory.face.Tied.{tied-alone}
-use Rattle.plane.specs.theory.face.Face.{furthest-neighbours, face-is}
-use Rattle.plane.specs.theory.sum.Positions.{edge-turn, next-left}
+use Rattle.plane.proofs.theory.lists.Members.{position-member, member-position}
+use Rattle.plane.proofs.theory.lists.Next.{Following, onward, closing, following, next-below, one-or-next}
+use Rattle.plane.proofs.theory.forms.Vector.{opposite-non-zero, turned_le, turned-back, positive-non-zero}
+use Rattle.plane.proofs.theory.support.Support.{value-le-support, support-unique}
+use Rattle.plane.proofs.theory.face.Tied.{tied-alone}
+use Rattle.plane.proofs.theory.face.Face.{furthest-neighbours, face-is}
+use Rattle.plane.proofs.theory.sum.Positions.{edge-turn, next-left}
 use Rattle.separation.specs.theory.Sector.{sector-weak}
 use Rattle.clearance.specs.Facing.{Lowest}
 use Rattle.clearance.specs.Faces.{IsFace, ordered_ends}

@@ -16,8 +16,8 @@ use Rattle.plane.specs.Point.{Point, origin, corner, ◌⊕◌, ◌∈◌}
 use Rattle.plane.specs.Turn.{cross}
 use Rattle.plane.specs.Direction.{value}
 use Rattle.plane.specs.Mean.{times, weight, heap, gap, share}
-use Rattle.plane.specs.theory.lists.Members.{point-path}
-use Rattle.plane.specs.theory.forms.Vector.{value-origin, ⊕-zero}
+use Rattle.plane.proofs.theory.lists.Members.{point-path}
+use Rattle.plane.proofs.theory.forms.Vector.{value-origin, ⊕-zero}
 use Rattle.clearance.specs.theory.Bound.{lagrange}
 
 -- ---- values of heaps

@@ -15,9 +15,9 @@ use Rattle.plane.specs.Direction.{value, support}
 use Rattle.plane.specs.Separation.{apart}
 use Rattle.plane.specs.Mean.{times, weight, heap, gap, share, AtMost, CommonPoint}
 use Rattle.plane.specs.Clearance.{Candidate, top, bottom, nearest}
-use Rattle.plane.specs.theory.lists.Members.{member-position}
-use Rattle.plane.specs.theory.forms.Vector.{value-origin, value-turned}
-use Rattle.plane.specs.theory.support.Support.{value-le-support, support-attained}
+use Rattle.plane.proofs.theory.lists.Members.{member-position}
+use Rattle.plane.proofs.theory.forms.Vector.{value-origin, value-turned}
+use Rattle.plane.proofs.theory.support.Support.{value-le-support, support-attained}
 use Rattle.separation.specs.theory.Apart.{apart→direction, apart-sym, Separated}
 use Rattle.clearance.specs.Order.{AtOrAfter, Listed}
 use Rattle.clearance.specs.Facing.{Facing}

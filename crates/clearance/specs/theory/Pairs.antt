@@ -6,7 +6,7 @@ use Rattle.std.proofs.Common.{sym, ◌∙◌, ap, ap₂}
 use Rattle.plane.specs.Point.{Point, corner, ◌⊖◌, ◌∈◌}
 use Rattle.plane.specs.Direction.{value}
 use Rattle.plane.specs.Separation.{differences}
-use Rattle.plane.specs.theory.lists.Members.{member-position}
+use Rattle.plane.proofs.theory.lists.Members.{member-position}
 use Rattle.separation.specs.theory.Apart.{value-difference, member-difference}
 
 pub record Pair (A B : List Point) (x : Point) : Type 0 where

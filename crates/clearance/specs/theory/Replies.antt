@@ -11,7 +11,7 @@ use Rattle.plane.specs.Mean.{CommonPoint}
 use Rattle.plane.specs.Clearance.{Candidate, corners, on_second, on_first, nearest, numbers_of}
 use Rattle.plane.specs.Floor.{Floored, Same}
 use Rattle.plane.specs.Question.{reply, ask_clearance}
-use Rattle.plane.specs.theory.refusals.Asked.{asked-none, asked-values, rest-none}
+use Rattle.plane.proofs.theory.refusals.Asked.{asked-none, asked-values, rest-none}
 use Rattle.clearance.specs.Order.{FirstOfLeast}
 use Rattle.clearance.specs.theory.Nearest.{common-not-apart}
 use Rattle.clearance.specs.theory.NearestUnique.{nearest-first-least, first-least-nearest}

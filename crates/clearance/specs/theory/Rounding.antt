@@ -10,7 +10,7 @@ use Rattle.plane.specs.Shape.{IsShape}
 use Rattle.plane.specs.Measure.{root_below}
 use Rattle.plane.specs.Separation.{apart}
 use Rattle.plane.specs.Clearance.{turn_on, Candidate, corners, on_second, on_first, top, bottom, nearest, numbers_of}
-use Rattle.plane.specs.theory.forms.Squared.{squared-nonneg}
+use Rattle.plane.proofs.theory.forms.Squared.{squared-nonneg}
 use Rattle.measure.specs.theory.Rounded.{rounded-low, rounded-high}
 use Rattle.clearance.specs.theory.Nearest.{nearest-is-whole}
 

@@ -16,7 +16,7 @@ use Rattle.plane.specs.Point.{Point, ◌⊕◌, ◌⊖◌, ◌∈◌}
 use Rattle.plane.specs.Turn.{cross}
 use Rattle.plane.specs.Direction.{value}
 use Rattle.plane.specs.Mean.{times}
-use Rattle.plane.specs.theory.forms.Vector.{value-nonneg}
+use Rattle.plane.proofs.theory.forms.Vector.{value-nonneg}
 
 -- ---- the least of a list, by a total and transitive relation
 

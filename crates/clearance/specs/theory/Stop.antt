@@ -15,13 +15,13 @@ use Rattle.plane.specs.Direction.{value, support}
 use Rattle.plane.specs.Corner.{shape_of}
 use Rattle.plane.specs.Separation.{differences, apart}
 use Rattle.plane.specs.Clearance.{corners}
-use Rattle.plane.specs.theory.lists.Members.{position-member, member-position}
-use Rattle.plane.specs.theory.lists.Next.{following, next-below, preceding}
-use Rattle.plane.specs.theory.forms.Vector.{cross-self, value-turned, square-positive}
-use Rattle.plane.specs.theory.sum.Positions.{edge-turn}
-use Rattle.plane.specs.theory.support.Support.{value-le-support, support-le}
-use Rattle.plane.specs.theory.hull.ShapeOf.{shape_of-shape, shape_of-support, shape_of-corner}
-use Rattle.plane.specs.theory.forms.Vector.{positive-non-zero, value-sym}
+use Rattle.plane.proofs.theory.lists.Members.{position-member, member-position}
+use Rattle.plane.proofs.theory.lists.Next.{following, next-below, preceding}
+use Rattle.plane.proofs.theory.forms.Vector.{cross-self, value-turned, square-positive}
+use Rattle.plane.proofs.theory.sum.Positions.{edge-turn}
+use Rattle.plane.proofs.theory.support.Support.{value-le-support, support-le}
+use Rattle.plane.proofs.theory.hull.ShapeOf.{shape_of-shape, shape_of-support, shape_of-corner}
+use Rattle.plane.proofs.theory.forms.Vector.{positive-non-zero, value-sym}
 use Rattle.separation.specs.theory.Apart.{Separated, value-difference, differences-some, difference-member, member-difference}
 use Rattle.separation.specs.theory.Apart.{apart→direction}
 use Rattle.clearance.specs.Facing.{Lowest, Facing, StopsAtCorner, StopsOnEdge}

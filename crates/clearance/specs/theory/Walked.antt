@@ -17,11 +17,11 @@ use Rattle.plane.specs.Corner.{shape_of}
 use Rattle.plane.specs.Measure.{squared, edge_squared}
 use Rattle.plane.specs.Separation.{differences, apart}
 use Rattle.plane.specs.Clearance.{falls_on, Candidate, corners, on_second, on_first, nearest}
-use Rattle.plane.specs.theory.lists.Members.{position-member}
-use Rattle.plane.specs.theory.lists.Next.{Following, onward, closing, following}
-use Rattle.plane.specs.theory.forms.Vector.{value-origin}
-use Rattle.plane.specs.theory.hull.ShapeOf.{shape_of-corner}
-use Rattle.plane.specs.theory.forms.Squared.{squared-positive}
+use Rattle.plane.proofs.theory.lists.Members.{position-member}
+use Rattle.plane.proofs.theory.lists.Next.{Following, onward, closing, following}
+use Rattle.plane.proofs.theory.forms.Vector.{value-origin}
+use Rattle.plane.proofs.theory.hull.ShapeOf.{shape_of-corner}
+use Rattle.plane.proofs.theory.forms.Squared.{squared-positive}
 use Rattle.separation.specs.theory.Apart.{value-difference, differences-some, member-difference, apart→direction}
 use Rattle.clearance.specs.Facing.{Reached, Facing, StopsAtCorner, StopsOnEdge}
 use Rattle.clearance.specs.Stop.{rests, crosses, after, Stopped, at-corner, at_edge, at_first}

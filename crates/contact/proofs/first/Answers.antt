@@ -8,13 +8,13 @@ use lib.ListN.{length}
 use Rattle.plane.specs.Limits.{max_corners}
 use Rattle.plane.specs.Point.{Point, points, numbers}
 use Rattle.plane.specs.Refusal.{Valid}
-use Rattle.plane.specs.theory.lists.Flat.{points-numbers}
+use Rattle.plane.proofs.theory.lists.Flat.{points-numbers}
 use Rattle.polygon.specs.Point.{at}
 use Rattle.polygon.specs.Front.{Front}
 use Rattle.polygon.specs.theory.Fronts.{overwritten-front, front-points, front_length}
 use Rattle.growth.specs.Grown.{grown}
 use Rattle.motion.specs.Contact.{contact_numbers}
-use Rattle.contact.specs.theory.Told.{never-told}
+use Rattle.contact.proofs.theory.Told.{never-told}
 use Rattle.contact.proofs.first.Goals as goal
 use Rattle.contact.proofs.first.Goals.{After-write-n}
 

@@ -4,7 +4,7 @@ use Prim.Native.Nat.{◌+◌}
 use native.Mathlib.Omega.{arith}
 use borrow.Author.Rules.{rules}
 use Rattle.plane.specs.Point.{Point, points, ◌⊖◌}
-use Rattle.plane.specs.theory.lists.Flat.{points-length}
+use Rattle.plane.proofs.theory.lists.Flat.{points-length}
 use Rattle.polygon.specs.theory.Small.{small-corner, small-edge, small-wide}
 use Rattle.convexity.specs.theory.Stretches.{edge-from}
 use Rattle.convexity.proofs.edge_at.Goals as goal

@@ -8,8 +8,8 @@ use borrow.Author.Tests.{not-true, not-false}
 use lib.ListN.{length}
 use Rattle.plane.specs.Point.{points}
 use Rattle.plane.specs.Forms.{edges}
-use Rattle.plane.specs.theory.lists.Flat.{points-length}
-use Rattle.plane.specs.theory.sum.Positions.{edges_some}
+use Rattle.plane.proofs.theory.lists.Flat.{points-length}
+use Rattle.plane.proofs.theory.sum.Positions.{edges_some}
 use Rattle.convexity.specs.theory.Convex.{point-shape, pair-shape, round-shape, shape-begins, shape-falls, shape-closes}
 use Rattle.convexity.proofs.is_shape.Goals as goal
 use Rattle.convexity.proofs.is_shape.Goals.{Else-n-eq1, Else-n-eq2}

@@ -4,7 +4,7 @@ use mathlib.Core.Bool.{false, false≢true}
 use borrow.Author.Rules.{rules}
 use Rattle.plane.specs.Point.{points}
 use Rattle.plane.specs.Refusal.{bad_count, too_many, some_outside}
-use Rattle.plane.specs.theory.refusals.Accept.{near→in_range, counted, shape→valid, valid→accepted}
+use Rattle.plane.proofs.theory.refusals.Accept.{near→in_range, counted, shape→valid, valid→accepted}
 use Rattle.convexity.proofs.passes.Goals as goal
 use Rattle.convexity.proofs.passes.Goals.{Else-bad_count, Else-some_outside, Else-too_many}
 

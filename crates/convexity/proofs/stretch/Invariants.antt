@@ -6,8 +6,8 @@ use borrow.Author.Tests.{not-true, not-false}
 use lib.ListN.{length}
 use Rattle.plane.specs.Point.{points, corner}
 use Rattle.plane.specs.Forms.{edges}
-use Rattle.plane.specs.theory.lists.Flat.{points-length}
-use Rattle.plane.specs.theory.sum.Positions.{edges_some}
+use Rattle.plane.proofs.theory.lists.Flat.{points-length}
+use Rattle.plane.proofs.theory.sum.Positions.{edges_some}
 use Rattle.polygon.specs.Point.{Small}
 use Rattle.convexity.specs.Stretch.{vector, goes_on}
 use Rattle.convexity.specs.theory.Stretches.{Along, along-start, along-more, along-end}

@@ -12,13 +12,13 @@ use Rattle.plane.specs.Point.{Point, corner, origin, ◌⊖◌}
 use Rattle.plane.specs.Turn.{cross}
 use Rattle.plane.specs.Shape.{next, precedes, IsShape}
 use Rattle.plane.specs.Forms.{Precedes, Before, NonZero, InOrder, edges_to, edges, up}
-use Rattle.plane.specs.theory.lists.Next.{Following, onward, closing, following, next-below}
-use Rattle.plane.specs.theory.forms.Precedes.{Lower, lower, level, precedes-lower, precedes-irrefl}
-use Rattle.plane.specs.theory.forms.Vector.{cross-nonzero, turn-edges}
-use Rattle.plane.specs.theory.forms.HalfPlane.{precedes→down}
-use Rattle.plane.specs.theory.forms.Angle.{Earlier, apart, alike, before→earlier}
-use Rattle.plane.specs.theory.forms.Standard.{all-at, shape→ordered, ordered→shape, sorted→shape}
-use Rattle.plane.specs.theory.sum.Positions.{edges_some, edge_at, in-order-at, shape-in-order, next-left}
+use Rattle.plane.proofs.theory.lists.Next.{Following, onward, closing, following, next-below}
+use Rattle.plane.proofs.theory.forms.Precedes.{Lower, lower, level, precedes-lower, precedes-irrefl}
+use Rattle.plane.proofs.theory.forms.Vector.{cross-nonzero, turn-edges}
+use Rattle.plane.proofs.theory.forms.HalfPlane.{precedes→down}
+use Rattle.plane.proofs.theory.forms.Angle.{Earlier, apart, alike, before→earlier}
+use Rattle.plane.proofs.theory.forms.Standard.{all-at, shape→ordered, ordered→shape, sorted→shape}
+use Rattle.plane.proofs.theory.sum.Positions.{edges_some, edge_at, in-order-at, shape-in-order, next-left}
 use Rattle.convexity.specs.Stretch.{goes_on, Stretch}
 use Rattle.convexity.specs.theory.Stretches.{edge-home, goes-up, goes_down, goes-by-rise, rising-up, falls-on, up→before, down→before}
 

@@ -19,9 +19,9 @@ use Rattle.plane.specs.Point.{Point, corner, origin, ◌⊖◌, opposite}
 use Rattle.plane.specs.Turn.{cross}
 use Rattle.plane.specs.Shape.{next}
 use Rattle.plane.specs.Forms.{Before, edges, up}
-use Rattle.plane.specs.theory.forms.Precedes.{precedes-below, precedes-above, precedes-level}
-use Rattle.plane.specs.theory.forms.Angle.{Earlier, apart, alike, before→earlier, before-cross}
-use Rattle.plane.specs.theory.sum.Positions.{edges_some, edge_at}
+use Rattle.plane.proofs.theory.forms.Precedes.{precedes-below, precedes-above, precedes-level}
+use Rattle.plane.proofs.theory.forms.Angle.{Earlier, apart, alike, before→earlier, before-cross}
+use Rattle.plane.proofs.theory.sum.Positions.{edges_some, edge_at}
 use Rattle.convexity.specs.Stretch.{goes_on, Stretch}
 
 -- ---- a stretch, edge by edge

@@ -12,10 +12,10 @@ use Rattle.plane.specs.Refusal.{shape_rows, Valid}
 use Rattle.plane.specs.Sweep.{point_rows, ValidPoints}
 use Rattle.plane.specs.Floor.{Floored, Shapes, two_shapes, floor_row, rows_of, floor_of}
 use Rattle.plane.specs.Question.{Question, values, reply, output}
-use Rattle.plane.specs.theory.refusals.Rows.{first_row-append, first_row-given, first_row-none, none-join, Outcome, given, passed, outcome}
-use Rattle.plane.specs.theory.refusals.Accept.{valid→accepted}
-use Rattle.plane.specs.theory.refusals.Points.{points→accepted}
-use Rattle.plane.specs.theory.refusals.Asked.{asked-kept}
+use Rattle.plane.proofs.theory.refusals.Rows.{first_row-append, first_row-given, first_row-none, none-join, Outcome, given, passed, outcome}
+use Rattle.plane.proofs.theory.refusals.Accept.{valid→accepted}
+use Rattle.plane.proofs.theory.refusals.Points.{points→accepted}
+use Rattle.plane.proofs.theory.refusals.Asked.{asked-kept}
 use Rattle.admission.specs.Admission.{Refuses}
 use Rattle.wire.specs.Told.{crossed}
 use Rattle.crossing.specs.LowFloor.{low_floor, barred}

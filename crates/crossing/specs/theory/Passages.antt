@@ -11,8 +11,8 @@ use Rattle.plane.specs.Reply.{Reply, answered, refused, Row, row, first_row}
 use Rattle.plane.specs.Refusal.{shape_rows, Valid}
 use Rattle.plane.specs.Floor.{Floored, floor_row}
 use Rattle.plane.specs.Question.{values, reply}
-use Rattle.plane.specs.theory.refusals.Rows.{first_row-none, none-join}
-use Rattle.plane.specs.theory.refusals.Accept.{valid→accepted}
+use Rattle.plane.proofs.theory.refusals.Rows.{first_row-none, none-join}
+use Rattle.plane.proofs.theory.refusals.Accept.{valid→accepted}
 use Rattle.admission.specs.Three.{three_rows}
 use Rattle.passage.specs.Passage.{grown_rows, ask_passage}
 use Rattle.crossing.specs.LowFloor.{low_passage, barred}

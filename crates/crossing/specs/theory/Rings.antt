@@ -10,7 +10,7 @@ use Rattle.plane.specs.Reply.{Reply, answered, refused, Row, row, first_row}
 use Rattle.plane.specs.Output.{room_row}
 use Rattle.plane.specs.Floor.{Floored, corners}
 use Rattle.plane.specs.Question.{values, reply, output}
-use Rattle.plane.specs.theory.refusals.Rows.{first_row-append, first_row-none}
+use Rattle.plane.proofs.theory.refusals.Rows.{first_row-append, first_row-none}
 use Rattle.ring.specs.Ring.{ring_shape, inward_row, list_rows, ValidRing, ask_ring}
 use Rattle.ring.specs.theory.Rows.{ring→accepted}
 use Rattle.wire.specs.Told.{crossed}

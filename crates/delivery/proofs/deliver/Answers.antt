@@ -11,7 +11,7 @@ use Rattle.plane.specs.Reply.{NoneApply}
 use Rattle.plane.specs.Output.{answer_rows}
 use Rattle.plane.specs.Floor.{no_shape}
 use Rattle.plane.specs.Question.{makes}
-use Rattle.plane.specs.theory.lists.Flat.{points-length}
+use Rattle.plane.proofs.theory.lists.Flat.{points-length}
 use Rattle.sums.specs.Size.{exact}
 use Rattle.admission.specs.Admission.{Judged}
 use Rattle.admission.specs.theory.Door.{rest-refused, all-written}

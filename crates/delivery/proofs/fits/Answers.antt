@@ -7,7 +7,7 @@ use borrow.Author.Tests.{lt-ltb, le-ltb, ltb-false}
 use lib.Dec.{ltb}
 use Rattle.plane.specs.Limits.{max_corners}
 use Rattle.plane.specs.Reply.{row, NoneApply, here}
-use Rattle.plane.specs.theory.refusals.Rows.{none-join}
+use Rattle.plane.proofs.theory.refusals.Rows.{none-join}
 use Rattle.delivery.specs.Fit.{sized_rows}
 use Rattle.admission.specs.theory.Judged.{refuses, refuses-append, refuses-join, passes, turns-away}
 use Rattle.delivery.proofs.fits.Goals as goal

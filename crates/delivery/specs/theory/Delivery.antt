@@ -21,10 +21,10 @@ use Rattle.plane.specs.Output.{no_room, size_rows, room_row, answer_rows, overwr
 use Rattle.plane.specs.Sweep.{ValidPoints}
 use Rattle.plane.specs.Floor.{Floored, corners, Shapes, no_shape, many_points, rows_of, floor_of, Admitted}
 use Rattle.plane.specs.Question.{reply, output, makes, ask_sweep}
-use Rattle.plane.specs.theory.lists.Flat.{numbers-points, numbers-length}
-use Rattle.plane.specs.theory.refusals.Rows.{row-given, first_row-given, first_row-passed, passed-output}
-use Rattle.plane.specs.theory.refusals.Asked.{admitted→none}
-use Rattle.plane.specs.theory.sweep.SweepSize.{sweep-size}
+use Rattle.plane.proofs.theory.lists.Flat.{numbers-points, numbers-length}
+use Rattle.plane.proofs.theory.refusals.Rows.{row-given, first_row-given, first_row-passed, passed-output}
+use Rattle.plane.proofs.theory.refusals.Asked.{admitted→none}
+use Rattle.plane.proofs.theory.sweep.SweepSize.{sweep-size}
 use Rattle.polygon.specs.Front.{Front}
 use Rattle.polygon.specs.theory.Fronts.{front-points, front_length}
 use Rattle.sums.specs.Size.{Reckoned, exact, enough, many}

@@ -15,7 +15,7 @@ use Rattle.integer.specs.Machine.{result-is}
 use Rattle.plane.specs.Point.{points, corner}
 use Rattle.plane.specs.Direction.{value as direction_value, support}
 use Rattle.plane.specs.Face.{is_furthest}
-use Rattle.plane.specs.theory.face.FirstFurthest.{furthest-greatest}
+use Rattle.plane.proofs.theory.face.FirstFurthest.{furthest-greatest}
 use Rattle.polygon.specs.Point.{at}
 use Rattle.direction.specs.theory.Face.{face-over-end, face-onward, face-alone}
 use Rattle.direction.proofs.face_towards.Goals as goal

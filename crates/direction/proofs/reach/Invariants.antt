@@ -11,7 +11,7 @@ use Rattle.integer.specs.Order.{lt_z-true, lt_z-false}
 use Rattle.plane.specs.Point.{points, corner}
 use Rattle.plane.specs.Direction.{value as direction_value}
 use Rattle.polygon.specs.Point.{at}
-use Rattle.plane.specs.theory.face.FirstFurthest.{Greatest}
+use Rattle.plane.proofs.theory.face.FirstFurthest.{Greatest}
 use Rattle.direction.specs.theory.Furthest.{greatest-start, greatest-keep, greatest-rise, greatest-support}
 use Rattle.direction.proofs.reach.Given as goal
 

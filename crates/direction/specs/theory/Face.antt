@@ -10,11 +10,11 @@ use Rattle.plane.specs.Shape.{next, IsShape}
 use Rattle.plane.specs.Forms.{NonZero}
 use Rattle.plane.specs.Direction.{support, furthest}
 use Rattle.plane.specs.Face.{is_furthest, face_first, face_last, Furthest, Face}
-use Rattle.plane.specs.theory.lists.Next.{Following, onward, closing, following}
-use Rattle.plane.specs.theory.lists.Sought.{true-not-false}
-use Rattle.plane.specs.theory.face.FirstFurthest.{furthest-greatest}
-use Rattle.plane.specs.theory.face.Face.{true-furthest, furthest-true, face-edge, face-corner}
-use Rattle.plane.specs.theory.face.Face.{face-is, face-unique}
+use Rattle.plane.proofs.theory.lists.Next.{Following, onward, closing, following}
+use Rattle.plane.proofs.theory.lists.Sought.{true-not-false}
+use Rattle.plane.proofs.theory.face.FirstFurthest.{furthest-greatest}
+use Rattle.plane.proofs.theory.face.Face.{true-furthest, furthest-true, face-edge, face-corner}
+use Rattle.plane.proofs.theory.face.Face.{face-is, face-unique}
 
 module _ {d : Point} {ps : List Point} (s : IsShape ps) (some : NonZero d) where
   abbrev n : ℕ

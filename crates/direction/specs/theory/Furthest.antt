@@ -10,10 +10,10 @@ use Rattle.integer.specs.Order.{weaken, le_of_eq, le-le_z, lt-le_z}
 use Rattle.plane.specs.Point.{Point, corner}
 use Rattle.plane.specs.Direction.{value, support, furthest}
 use Rattle.plane.specs.Face.{is_furthest}
-use Rattle.plane.specs.theory.lists.Members.{position-member, member-position}
-use Rattle.plane.specs.theory.lists.Sought.{first-unique}
-use Rattle.plane.specs.theory.support.Support.{support-unique}
-use Rattle.plane.specs.theory.face.FirstFurthest.{Greatest}
+use Rattle.plane.proofs.theory.lists.Members.{position-member, member-position}
+use Rattle.plane.proofs.theory.lists.Sought.{first-unique}
+use Rattle.plane.proofs.theory.support.Support.{support-unique}
+use Rattle.plane.proofs.theory.face.FirstFurthest.{Greatest}
 
 -- ---- the moves
 

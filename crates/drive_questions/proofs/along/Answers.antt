@@ -14,7 +14,7 @@ use Rattle.plane.specs.Floor.{Floored, on}
 use Rattle.polygon.specs.Point.{at}
 use Rattle.journal.specs.Format.{records}
 use Rattle.journal.specs.Reading.{damaged}
-use Rattle.journal.specs.theory.Survey.{surveyed-ends}
+use Rattle.journal.proofs.theory.Survey.{surveyed-ends}
 use Rattle.gaps.specs.Gap.{on_floor, size_rows_of}
 use Rattle.drives.specs.theory.Replies.{drive-refused, drive-damaged, drive-empty, drive-far, drive-beyond, drive-large, drive-found}
 use Rattle.drive_questions.proofs.Places.{in-range}

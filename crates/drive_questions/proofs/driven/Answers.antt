@@ -14,9 +14,9 @@ use Rattle.polygon.specs.Point.{at}
 use Rattle.admission.specs.theory.Judged.{refuses-append, refuses-join}
 use Rattle.admission.specs.theory.Door.{shapes-refused, rest-refused}
 use Rattle.growth.specs.Grown.{grown}
-use Rattle.passage.specs.theory.Found.{grown-valid}
+use Rattle.passage.proofs.theory.Found.{grown-valid}
 use Rattle.motion.specs.Contact.{place_row, ask_contact}
-use Rattle.motion.specs.theory.Replies.{contact-answers}
+use Rattle.motion.proofs.theory.Replies.{contact-answers}
 use Rattle.drive_questions.proofs.Places.{in-range}
 use Rattle.drive_questions.proofs.driven.Goals as goal
 use Rattle.drive_questions.proofs.driven.Goals.{In_default, In_default-admit_grown, In_default-admit_place, In_default-admit_place-2, Start}

@@ -3,7 +3,7 @@ use mathlib.Core.Path.{◌≡◌, refl}
 use Prim.Native.Nat.{◌*◌}
 use borrow.Author.Rules.{rules}
 use Rattle.plane.specs.Limits.{max_corners}
-use Rattle.gaps.specs.theory.Steps.{walk_start}
+use Rattle.gaps.proofs.theory.Steps.{walk_start}
 use Rattle.drives.proofs.first.Goals as goal
 
 -- a buffer holds the numbers of any shape

@@ -11,9 +11,9 @@ use Rattle.plane.specs.Point.{points}
 use Rattle.plane.specs.Refusal.{Valid}
 use Rattle.polygon.specs.Point.{at}
 use Rattle.growth.specs.Grown.{grown}
-use Rattle.journal.specs.theory.Stepping.{here-valid}
+use Rattle.journal.proofs.theory.Stepping.{here-valid}
 use Rattle.gaps.specs.Gap.{grown_of}
-use Rattle.gaps.specs.theory.Read.{valid-fits}
+use Rattle.gaps.proofs.theory.Read.{valid-fits}
 use Rattle.drives.specs.Search.{MetAs, Onward}
 use Rattle.drives.specs.theory.Walked.{onward-elsewhere, onward-kept}
 use Rattle.drives.proofs.look.Goals as goal

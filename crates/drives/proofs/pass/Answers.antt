@@ -8,8 +8,8 @@ use Rattle.plane.specs.Limits.{max_corners}
 use Rattle.plane.specs.Point.{points}
 use Rattle.polygon.specs.Point.{at}
 use Rattle.journal.specs.Format.{size, whole}
-use Rattle.journal.specs.theory.Survey.{size-at, next-inside}
-use Rattle.gaps.specs.theory.Steps.{walk-sound}
+use Rattle.journal.proofs.theory.Survey.{size-at, next-inside}
+use Rattle.gaps.proofs.theory.Steps.{walk-sound}
 use Rattle.drives.specs.theory.Walked.{Searched, searched-start, searched-next, searched-end}
 use Rattle.drives.proofs.pass.Goals as goal
 use Rattle.drives.proofs.pass.Goals.{After-pair_at, In-loop-t}

@@ -11,19 +11,19 @@ use Rattle.plane.specs.Reply.{Reply, answered, Row, row, NoneApply}
 use Rattle.plane.specs.Output.{size_rows}
 use Rattle.plane.specs.Floor.{Floored, corners, one_shape}
 use Rattle.plane.specs.Question.{Question, reply, asks}
-use Rattle.plane.specs.theory.lists.Sought.{either-false}
-use Rattle.plane.specs.theory.refusals.Rows.{none-join}
+use Rattle.plane.proofs.theory.lists.Sought.{either-false}
+use Rattle.plane.proofs.theory.refusals.Rows.{none-join}
 use Rattle.journal.specs.Format.{recorded, records, name}
 use Rattle.journal.specs.Reading.{damaged, bad_place, held}
 use Rattle.journal.specs.Adding.{added}
 use Rattle.journal.specs.History.{is_finished}
 use Rattle.journal.specs.Current.{keep, is_other, around, too_few_row}
-use Rattle.journal.specs.theory.Added.{finished-accepted, finished-sound, unfinished-seen}
-use Rattle.journal.specs.theory.Current.{finished-around}
+use Rattle.journal.proofs.theory.Added.{finished-accepted, finished-sound, unfinished-seen}
+use Rattle.journal.proofs.theory.Current.{finished-around}
 use Rattle.motion.specs.Contact.{place_row}
 use Rattle.gaps.specs.Gap.{grown_of, on_floor, size_rows_of}
 use Rattle.gaps.specs.Search.{Fits}
-use Rattle.gaps.specs.theory.Steps.{sized-parts}
+use Rattle.gaps.proofs.theory.Steps.{sized-parts}
 use Rattle.drives.specs.Drive.{met_numbers, drive_numbers, drive_rows, ask_drive}
 use Rattle.drives.specs.Answered.{is_first}
 use Rattle.drives.specs.theory.Soonest.{drive-snoc}

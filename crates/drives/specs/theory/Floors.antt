@@ -12,14 +12,14 @@ use borrow.Author.Tests.{eqb-true}
 use Rattle.plane.specs.Point.{Point}
 use Rattle.plane.specs.Reply.{NoneApply}
 use Rattle.plane.specs.Refusal.{Valid}
-use Rattle.plane.specs.theory.lists.Sought.{either-false}
+use Rattle.plane.proofs.theory.lists.Sought.{either-false}
 use Rattle.journal.specs.Format.{records, name, floor, list, bad}
 use Rattle.journal.specs.Reading.{damaged, held}
 use Rattle.journal.specs.Current.{current, keep, is_other, is_around, around}
-use Rattle.journal.specs.theory.Kind.{good→facts}
+use Rattle.journal.proofs.theory.Kind.{good→facts}
 use Rattle.gaps.specs.Gap.{on_floor, size_rows_of}
 use Rattle.gaps.specs.Search.{Fits}
-use Rattle.gaps.specs.theory.Steps.{sized-parts}
+use Rattle.gaps.proofs.theory.Steps.{sized-parts}
 
 -- ---- those that pass a test
 

@@ -16,14 +16,14 @@ use Rattle.plane.specs.Distance.{Fraction}
 use Rattle.plane.specs.Floor.{Floored, corners, Same}
 use Rattle.plane.specs.Question.{reply}
 use Rattle.growth.specs.Grown.{driven}
-use Rattle.growth.specs.theory.Places.{grown-shape}
+use Rattle.growth.proofs.theory.Places.{grown-shape}
 use Rattle.journal.specs.Format.{content}
 use Rattle.motion.specs.Contact.{OnWay, NoLater, meets, cart_meets, contact, contact_numbers, ask_contact}
-use Rattle.motion.specs.theory.Meeting.{first-on-way, first-meets, none-earlier, met-unless-apart}
-use Rattle.motion.specs.theory.Larger.{cart-met}
-use Rattle.motion.specs.theory.Replies.{contact-answers}
+use Rattle.motion.proofs.theory.Meeting.{first-on-way, first-meets, none-earlier, met-unless-apart}
+use Rattle.motion.proofs.theory.Larger.{cart-met}
+use Rattle.motion.proofs.theory.Replies.{contact-answers}
 use Rattle.gaps.specs.Gap.{grown_of, on_floor}
-use Rattle.gaps.specs.theory.Pairs.{drive-clear}
+use Rattle.gaps.proofs.theory.Pairs.{drive-clear}
 use Rattle.drives.specs.Drive.{is_met, drive_rows}
 use Rattle.drives.specs.theory.Floors.{floor-valid, floor-on, sized-in}
 

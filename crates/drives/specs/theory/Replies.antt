@@ -9,7 +9,7 @@ use Rattle.plane.specs.Refusal.{some_outside, shape_rows, Valid}
 use Rattle.plane.specs.Reply.{Reply, answered, refused, here, later, NoneApply}
 use Rattle.plane.specs.Floor.{Floored, corners}
 use Rattle.plane.specs.Question.{Question, reply}
-use Rattle.plane.specs.theory.refusals.Asked.{asked-given, asked-none, asked-shapes, asked-rest, rest-given, rest-none}
+use Rattle.plane.proofs.theory.refusals.Asked.{asked-given, asked-none, asked-shapes, asked-rest, rest-given, rest-none}
 use Rattle.admission.specs.Admission.{Refuses}
 use Rattle.admission.specs.theory.Judged.{refuses-append, refuses-join}
 use Rattle.admission.specs.theory.Door.{shapes-refused, rest-refused}
@@ -20,7 +20,7 @@ use Rattle.journal.specs.Survey.{surveyed}
 use Rattle.journal.specs.declared.survey.Surveyed.TheVariants as Surveyed
 use Rattle.motion.specs.Contact.{place_row}
 use Rattle.gaps.specs.Gap.{on_floor, size_rows_of}
-use Rattle.gaps.specs.theory.Replies.{damage-refuses}
+use Rattle.gaps.proofs.theory.Replies.{damage-refuses}
 use Rattle.drives.specs.Drive.{drive_numbers, drive_rows, ask_drive}
 
 module _ (b : List ℕ) (cart : Floored) (t u : Point) where

@@ -8,11 +8,11 @@ use Rattle.std.proofs.Common.{◌∙◌, ap, append-nil}
 use Rattle.plane.specs.Point.{Point}
 use Rattle.clearance.specs.theory.Distance.{no_more-refl, more-no_more, no_more-trans}
 use Rattle.journal.specs.Current.{keep}
-use Rattle.journal.specs.theory.Current.{keep_append}
+use Rattle.journal.proofs.theory.Current.{keep_append}
 use Rattle.neighbours.specs.Settled.{FirstLeast}
 use Rattle.neighbours.specs.theory.Least.{All, least_of-step, least_of-first, least_of-snoc}
 use Rattle.motion.specs.Contact.{contact}
-use Rattle.motion.specs.theory.Meeting.{first-on-way}
+use Rattle.motion.proofs.theory.Meeting.{first-on-way}
 use Rattle.gaps.specs.Gap.{grown_of}
 use Rattle.drives.specs.Drive.{is_met, is_as_soon, first_met, met_numbers, soonest_numbers, drive_numbers}
 use Rattle.drives.specs.Answered.{is_sooner_than_all, is_first}

@@ -21,17 +21,17 @@ use Rattle.plane.specs.Separation.{apart}
 use Rattle.plane.specs.Distance.{Fraction, over}
 use Rattle.plane.specs.Floor.{Floored, corners}
 use Rattle.plane.specs.Question.{Question, reply}
-use Rattle.plane.specs.theory.lists.Sought.{true-not-false}
-use Rattle.plane.specs.theory.refusals.Asked.{asked-values}
+use Rattle.plane.proofs.theory.lists.Sought.{true-not-false}
+use Rattle.plane.proofs.theory.refusals.Asked.{asked-values}
 use Rattle.clearance.specs.theory.Distance.{no_more-le, more_lt}
 use Rattle.growth.specs.Grown.{driven}
 use Rattle.journal.specs.Format.{content}
 use Rattle.journal.specs.Current.{keep}
 use Rattle.neighbours.specs.Settled.{FirstLeast}
 use Rattle.motion.specs.Contact.{OnWay, NoLater, cart_meets, contact, safe, ask_contact}
-use Rattle.motion.specs.theory.Entry.{later_trans}
-use Rattle.motion.specs.theory.Meeting.{first-on-way}
-use Rattle.motion.specs.theory.Safe.{safe-before}
+use Rattle.motion.proofs.theory.Entry.{later_trans}
+use Rattle.motion.proofs.theory.Meeting.{first-on-way}
+use Rattle.motion.proofs.theory.Safe.{safe-before}
 use Rattle.gaps.specs.Gap.{grown_of, on_floor}
 use Rattle.drives.specs.Drive.{is_met, is_as_soon, first_met, soonest_numbers, drive_rows, ask_drive}
 use Rattle.drives.specs.Answered.{Told}

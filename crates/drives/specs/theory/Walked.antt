@@ -19,16 +19,16 @@ use Rattle.journal.specs.Reading.{damaged}
 use Rattle.journal.specs.Current.{keep}
 use Rattle.journal.specs.Survey.{record_at, next_at, Sound, Stated}
 use Rattle.journal.specs.declared.head.Head.{Head}
-use Rattle.journal.specs.theory.Survey.{next-inside}
-use Rattle.journal.specs.theory.Stepping.{later-good}
+use Rattle.journal.proofs.theory.Survey.{next-inside}
+use Rattle.journal.proofs.theory.Stepping.{later-good}
 use Rattle.motion.specs.Contact.{contact, safe, contact_numbers}
 use Rattle.contact.specs.Share.{meeting_numbers}
 use Rattle.contact.specs.declared.drive.Meeting.{Meeting}
 use Rattle.contact.specs.declared.drive.Meeting.TheVariants as Meeting
 use Rattle.gaps.specs.Gap.{grown_of, on_floor}
 use Rattle.gaps.specs.Search.{from, is_on, Walk}
-use Rattle.gaps.specs.theory.Steps.{from_step, from_end, walk-next, walk-fits}
-use Rattle.gaps.specs.theory.Read.{on-elsewhere, on-here}
+use Rattle.gaps.proofs.theory.Steps.{from_step, from_end, walk-next, walk-fits}
+use Rattle.gaps.proofs.theory.Read.{on-elsewhere, on-here}
 use Rattle.drives.specs.Drive.{is_met, is_as_soon, met_numbers, soonest_numbers, drive_numbers}
 use Rattle.drives.specs.Search.{is_latest, found_numbers, is_sooner, MetAs, kept_of, Met, Still, Onward}
 use Rattle.drives.specs.declared.Soonest.{Soonest}

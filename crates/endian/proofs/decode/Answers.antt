@@ -6,7 +6,7 @@ use native.Mathlib.Omega.{arith}
 use borrow.Author.Rules.{sfits_of}
 use lib.ListN.{length}
 use mir.Facts.{to_z-of_z}
-use Rattle.plane.specs.theory.lists.Filled.{Filled, filled-start, filled_put, filled-length, filled-done}
+use Rattle.plane.proofs.theory.lists.Filled.{Filled, filled-start, filled_put, filled-length, filled-done}
 use Rattle.endian.specs.Bytes.{words_at}
 use Rattle.endian.specs.theory.Bytes.{words_at-length, words_at-at}
 use Rattle.endian.proofs.decode.Goals as goal

@@ -13,9 +13,9 @@ use Rattle.clearance.specs.declared.Spacing.{Spacing}
 use Rattle.clearance.specs.Answer.{Spaced}
 use Rattle.excess.specs.Answer.{up_numbers}
 use Rattle.excess.specs.Excess.{outermost, corner_numbers, excess_numbers}
-use Rattle.excess.specs.theory.Outermost.{outermost-among}
-use Rattle.excess.specs.theory.Reach.{outermost-apart}
-use Rattle.excess.specs.theory.Found.{corner-valid, point-found, found-rounded, found_up}
+use Rattle.excess.proofs.theory.Outermost.{outermost-among}
+use Rattle.excess.proofs.theory.Reach.{outermost-apart}
+use Rattle.excess.proofs.theory.Found.{corner-valid, point-found, found-rounded, found_up}
 use Rattle.excess.proofs.beyond.Goals as goal
 use Rattle.excess.proofs.beyond.Goals.{After-corner_at, After-spacing}
 

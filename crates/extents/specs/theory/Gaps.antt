@@ -21,15 +21,15 @@ use Rattle.plane.specs.Refusal.{Valid}
 use Rattle.plane.specs.Separation.{apart}
 use Rattle.plane.specs.Clearance.{top, bottom, nearest}
 use Rattle.plane.specs.Distance.{over, no_more, distance}
-use Rattle.plane.specs.theory.lists.Greater.{greater-either, left-le-greater}
-use Rattle.plane.specs.theory.forms.Vector.{value-origin, opposite-opposite}
-use Rattle.plane.specs.theory.support.Support.{value-le-support, support-mirrored}
+use Rattle.plane.proofs.theory.lists.Greater.{greater-either, left-le-greater}
+use Rattle.plane.proofs.theory.forms.Vector.{value-origin, opposite-opposite}
+use Rattle.plane.proofs.theory.support.Support.{value-le-support, support-mirrored}
 use Rattle.clearance.specs.theory.Distance.{le-no_more, distance-apart, distance_none, distance-whole, distance-nonneg}
 use Rattle.strips.specs.Strip.{least, gap_in, Corridor}
-use Rattle.strips.specs.theory.Spread.{least-le-value}
-use Rattle.strips.specs.theory.Corridors.{corridor-no-wider, corridor-level}
+use Rattle.strips.proofs.theory.Spread.{least-le-value}
+use Rattle.strips.proofs.theory.Corridors.{corridor-no-wider, corridor-level}
 use Rattle.growth.specs.Grown.{grown}
-use Rattle.growth.specs.theory.Places.{grown-reach}
+use Rattle.growth.proofs.theory.Places.{grown-reach}
 use Rattle.polygon.specs.declared.extent.Extent.{Extent}
 use Rattle.polygon.specs.Point.{at, Small}
 use Rattle.polygon.specs.Extent.{highest, Extends}

@@ -7,8 +7,8 @@ use Rattle.plane.specs.Limits.{max_corners}
 use Rattle.plane.specs.Point.{points}
 use Rattle.gaps.specs.Gap.{pairs_of, on_floor}
 use Rattle.gaps.specs.Search.{Found}
-use Rattle.gaps.specs.theory.Steps.{walk_start}
-use Rattle.gaps.specs.theory.Passed.{answer-nothing, answer-found, answer-numbers}
+use Rattle.gaps.proofs.theory.Steps.{walk_start}
+use Rattle.gaps.proofs.theory.Passed.{answer-nothing, answer-found, answer-numbers}
 use Rattle.gaps.proofs.gap.Goals as goal
 use Rattle.gaps.proofs.gap.Goals.{In-Pair}
 

@@ -9,7 +9,7 @@ use lib.ListN.{length, take, drop, length-drop}
 use lib.Seq.{length-take-le}
 use Rattle.plane.specs.Limits.{corners-small}
 use Rattle.plane.specs.Point.{Point, points}
-use Rattle.plane.specs.theory.lists.Flat.{points-length}
+use Rattle.plane.proofs.theory.lists.Flat.{points-length}
 use Rattle.polygon.specs.Front.{Front}
 use Rattle.polygon.specs.Point.{at}
 use Rattle.hull.specs.Chain.{left_rows}

@@ -6,7 +6,7 @@ use borrow.Author.Rules.{rules}
 use lib.ListN.{take}
 use lib.Seq.{length-take-le}
 use Rattle.plane.specs.Point.{Point, points}
-use Rattle.plane.specs.theory.lists.Flat.{points-length}
+use Rattle.plane.proofs.theory.lists.Flat.{points-length}
 use Rattle.plane.specs.Corner.{ascending, outline, shape_of}
 use Rattle.polygon.specs.Front.{Front}
 use Rattle.sorting.specs.Buffer.{Holds, SmallTo}

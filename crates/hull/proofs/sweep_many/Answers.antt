@@ -7,7 +7,7 @@ use lib.ListN.{take}
 use lib.Seq.{length-take-le}
 use Rattle.plane.specs.Limits.{max_points}
 use Rattle.plane.specs.Point.{Point, points}
-use Rattle.plane.specs.theory.lists.Flat.{points-length}
+use Rattle.plane.proofs.theory.lists.Flat.{points-length}
 use Rattle.plane.specs.Corner.{ascending, outline, shape_of}
 use Rattle.polygon.specs.Front.{Front}
 use Rattle.sorting.specs.Buffer.{Holds, SmallTo}

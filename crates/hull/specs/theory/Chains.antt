@@ -11,14 +11,14 @@ use Rattle.plane.specs.Point.{Point, corner, ◌∈◌, ◌⊆◌}
 use Rattle.plane.specs.Direction.{value, support}
 use Rattle.plane.specs.Shape.{IsShape}
 use Rattle.plane.specs.Corner.{push, scan, shape_of}
-use Rattle.plane.specs.theory.lists.Members.{last_of, all-member, member-all, member-some, position-member}
-use Rattle.plane.specs.theory.forms.Standard.{sorted→shape}
-use Rattle.plane.specs.theory.support.Support.{value-le-support, support-le, support-subset}
-use Rattle.plane.specs.theory.hull.Halves.{Onward, Sideways}
-use Rattle.plane.specs.theory.hull.Ascending.{Runs, ends}
-use Rattle.plane.specs.theory.hull.Scan.{Bounds, Kept, scanned}
-use Rattle.plane.specs.theory.hull.Hull.{circuit, circuit-sorted, circuit-member, circuit-bound-right, circuit-bound-left}
-use Rattle.plane.specs.theory.hull.ShapeOf.{shape-known}
+use Rattle.plane.proofs.theory.lists.Members.{last_of, all-member, member-all, member-some, position-member}
+use Rattle.plane.proofs.theory.forms.Standard.{sorted→shape}
+use Rattle.plane.proofs.theory.support.Support.{value-le-support, support-le, support-subset}
+use Rattle.plane.proofs.theory.hull.Halves.{Onward, Sideways}
+use Rattle.plane.proofs.theory.hull.Ascending.{Runs, ends}
+use Rattle.plane.proofs.theory.hull.Scan.{Bounds, Kept, scanned}
+use Rattle.plane.proofs.theory.hull.Hull.{circuit, circuit-sorted, circuit-member, circuit-bound-right, circuit-bound-left}
+use Rattle.plane.proofs.theory.hull.ShapeOf.{shape-known}
 use Rattle.sorting.specs.Order.{Ahead, in_order, closed}
 use Rattle.hull.specs.Chain.{taken}
 use Rattle.sorting.specs.theory.Ahead.{ahead→onward}

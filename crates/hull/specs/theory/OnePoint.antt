@@ -6,9 +6,9 @@ use mathlib.Core.List.Memᴰ
 use Rattle.plane.specs.Point.{Point, corner, ◌∈◌}
 use Rattle.plane.specs.Shape.{precedes, IsShape}
 use Rattle.plane.specs.Corner.{shape_of}
-use Rattle.plane.specs.theory.lists.Members.{position-member}
-use Rattle.plane.specs.theory.forms.Standard.{sorted→shape}
-use Rattle.plane.specs.theory.hull.ShapeOf.{shape_of-same, shape-own}
+use Rattle.plane.proofs.theory.lists.Members.{position-member}
+use Rattle.plane.proofs.theory.forms.Standard.{sorted→shape}
+use Rattle.plane.proofs.theory.hull.ShapeOf.{shape_of-same, shape-own}
 use Rattle.sorting.specs.Order.{Ahead, foremost}
 use Rattle.polygon.specs.Peak.{Peak}
 use Rattle.sorting.specs.theory.Ahead.{NotBehind, reaches-on, reaches-to, turned_up, foremost-le}

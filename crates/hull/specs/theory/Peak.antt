@@ -16,8 +16,8 @@ use Rattle.plane.specs.Direction.{value}
 use Rattle.plane.specs.Shape.{precedes, IsShape}
 use Rattle.plane.specs.Forms.{Precedes}
 use Rattle.plane.specs.Refusal.{InRange}
-use Rattle.plane.specs.theory.lists.Members.{member-position, position-member}
-use Rattle.plane.specs.theory.hull.Halves.{Sideways, upward, downward, value-between}
+use Rattle.plane.proofs.theory.lists.Members.{member-position, position-member}
+use Rattle.plane.proofs.theory.hull.Halves.{Sideways, upward, downward, value-between}
 use Rattle.polygon.specs.Peak.{Peak}
 use Rattle.polygon.specs.theory.Peak.{least, left, rise, behind-peak, fall}
 use Rattle.polygon.specs.Point.{Small}

@@ -11,9 +11,9 @@ use Rattle.plane.specs.Point.{Point, points, corner, ◌∈◌}
 use Rattle.plane.specs.Shape.{IsShape}
 use Rattle.plane.specs.Corner.{push, scan, shape_of}
 use Rattle.plane.specs.Refusal.{Valid}
-use Rattle.plane.specs.theory.lists.Members.{position-member}
-use Rattle.plane.specs.theory.forms.Precedes.{precedes-different}
-use Rattle.plane.specs.theory.hull.Hull.{circuit}
+use Rattle.plane.proofs.theory.lists.Members.{position-member}
+use Rattle.plane.proofs.theory.forms.Precedes.{precedes-different}
+use Rattle.plane.proofs.theory.hull.Hull.{circuit}
 use Rattle.polygon.specs.Point.{Small}
 use Rattle.polygon.specs.theory.Small.{small-corner}
 use Rattle.sorting.specs.Order.{closed, in_order, left_over, Line, Rising, foremost}

@@ -13,7 +13,7 @@ use Rattle.std.specs.Int.Signed.{lt_z}
 use Rattle.plane.specs.Point.{Point, origin, points, corner}
 use Rattle.plane.specs.Turn.{turn}
 use Rattle.plane.specs.Corner.{push, scan}
-use Rattle.plane.specs.theory.lists.Flat.{points-length}
+use Rattle.plane.proofs.theory.lists.Flat.{points-length}
 use Rattle.polygon.specs.Point.{Small, stored}
 use Rattle.sorting.specs.Order.{in_order}
 use Rattle.sorting.specs.Buffer.{stack, SmallTo, Settled, Scanned, Chained}

@@ -14,7 +14,7 @@ use Rattle.integer.specs.Order.{lt_z-true, lt_z-false}
 use Rattle.plane.specs.Point.{Point, corner, ◌∈◌}
 use Rattle.plane.specs.Turn.{turn}
 use Rattle.plane.specs.Direction.{value}
-use Rattle.plane.specs.theory.hull.Halves.{Sideways, value-between}
+use Rattle.plane.proofs.theory.hull.Halves.{Sideways, value-between}
 use Rattle.sorting.specs.Order.{Ahead, closed, Rises}
 use Rattle.hull.specs.Chain.{is_right, one, row_first, row_end, taken}
 use Rattle.sorting.specs.theory.Ahead.{NotBehind, reaches-on, reaches-to, ahead→onward}

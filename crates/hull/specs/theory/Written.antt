@@ -10,8 +10,8 @@ use Rattle.std.proofs.lemmas.List.{take-append-le}
 use Rattle.plane.specs.Point.{Point, points, numbers}
 use Rattle.plane.specs.Shape.{IsShape}
 use Rattle.plane.specs.Corner.{shape_of}
-use Rattle.plane.specs.theory.lists.Flat.{points-length, numbers-append}
-use Rattle.plane.specs.theory.hull.Hull.{circuit}
+use Rattle.plane.proofs.theory.lists.Flat.{points-length, numbers-append}
+use Rattle.plane.proofs.theory.hull.Hull.{circuit}
 use Rattle.polygon.specs.Front.{Front}
 use Rattle.polygon.specs.Point.{stored}
 use Rattle.sorting.specs.Buffer.{Chained}

@@ -6,7 +6,7 @@ use borrow.Author.Rules.{rules}
 use borrow.Author.Tests.{ltb-true, ltb-false}
 use lib.ListN.{length}
 use Rattle.journal.specs.Format.{recorded}
-use Rattle.journal.specs.theory.Records.{end-le}
+use Rattle.journal.proofs.theory.Records.{end-le}
 use Rattle.log_questions.specs.theory.Logs.{add-full, add_done}
 use Rattle.log_questions.proofs.add_after.Goals as goal
 use Rattle.log_questions.proofs.add_after.Goals.{Else-is_full}

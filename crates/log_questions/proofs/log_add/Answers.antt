@@ -2,7 +2,7 @@
 use mathlib.Core.Path.{sym, ◌∙◌}
 use borrow.Author.Rules.{rules}
 use Rattle.plane.specs.Refusal.{Valid}
-use Rattle.journal.specs.theory.Survey.{surveyed-ends}
+use Rattle.journal.proofs.theory.Survey.{surveyed-ends}
 use Rattle.log_questions.specs.theory.Logs.{add-refused, add-damaged}
 use Rattle.log_questions.proofs.log_add.Goals as goal
 use Rattle.log_questions.proofs.log_add.Goals.{In_default}

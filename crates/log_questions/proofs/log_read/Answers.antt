@@ -6,7 +6,7 @@ use borrow.Author.Rules.{rules}
 use Rattle.journal.specs.Format.{records}
 use Rattle.journal.specs.Reading.{damaged}
 use Rattle.journal.specs.Survey.{Latest, LatestAt}
-use Rattle.journal.specs.theory.Survey.{surveyed-ends}
+use Rattle.journal.proofs.theory.Survey.{surveyed-ends}
 use Rattle.log_questions.specs.theory.Logs.{read-damaged, read-missing, read-room, read_found}
 use Rattle.log_questions.proofs.log_read.Goals as goal
 use Rattle.log_questions.proofs.log_read.Goals.{In-At, In_default}

@@ -11,7 +11,7 @@ use Rattle.journal.specs.Reading.{damaged}
 use Rattle.journal.specs.Current.{around}
 use Rattle.journal.specs.Survey.{surveyed}
 use Rattle.journal.specs.declared.survey.Surveyed.TheVariants as Surveyed
-use Rattle.journal.specs.theory.Survey.{surveyed-bad}
+use Rattle.journal.proofs.theory.Survey.{surveyed-bad}
 use Rattle.neighbours.specs.Nearest.{nearest_numbers, ask_nearest}
 use Rattle.admission.specs.Admission.{Refuses}
 use Rattle.admission.specs.theory.Judged.{refuses}

@@ -11,7 +11,7 @@ use Rattle.plane.specs.Point.{points, numbers}
 use Rattle.plane.specs.Reply.{Reply, answered, refused, here, later}
 use Rattle.plane.specs.Output.{no_room, overwritten}
 use Rattle.plane.specs.Question.{Question, reply, output}
-use Rattle.plane.specs.theory.lists.Flat.{numbers-points, points-length}
+use Rattle.plane.proofs.theory.lists.Flat.{numbers-points, points-length}
 use Rattle.endian.specs.Bytes.{words_at}
 use Rattle.endian.specs.theory.Bytes.{words_at-length}
 use Rattle.journal.specs.Format.{records, name, floor, list}
@@ -20,7 +20,7 @@ use Rattle.journal.specs.Current.{current, ask_entry}
 use Rattle.journal.specs.Survey.{surveyed, EntryAt}
 use Rattle.journal.specs.declared.head.Head.{Head}
 use Rattle.journal.specs.declared.survey.Surveyed.TheVariants as Surveyed
-use Rattle.journal.specs.theory.Survey.{surveyed-bad}
+use Rattle.journal.proofs.theory.Survey.{surveyed-bad}
 use Rattle.admission.specs.theory.Judged.{refuses}
 use Rattle.admission.specs.theory.Door.{rest-refused, all-written}
 

@@ -14,9 +14,9 @@ use Rattle.plane.specs.Reply.{Reply, answered, refused, Row, row, first_row, her
 use Rattle.plane.specs.Refusal.{shape_rows, Valid}
 use Rattle.plane.specs.Output.{no_room, overwritten}
 use Rattle.plane.specs.Question.{Question, reply, output}
-use Rattle.plane.specs.theory.lists.Flat.{numbers-points, points-length}
-use Rattle.plane.specs.theory.refusals.Rows.{first_row-given, first_row-passed}
-use Rattle.plane.specs.theory.refusals.Accept.{valid→accepted}
+use Rattle.plane.proofs.theory.lists.Flat.{numbers-points, points-length}
+use Rattle.plane.proofs.theory.refusals.Rows.{first_row-given, first_row-passed}
+use Rattle.plane.proofs.theory.refusals.Accept.{valid→accepted}
 use Rattle.endian.specs.Bytes.{words_at}
 use Rattle.endian.specs.theory.Bytes.{words_at-length}
 use Rattle.journal.specs.Format.{recorded, records}
@@ -24,7 +24,7 @@ use Rattle.journal.specs.Reading.{damaged, held, latest, damage_row, ask_read}
 use Rattle.journal.specs.Adding.{end, stores, made, add_reply, unless_refusal, added}
 use Rattle.journal.specs.Survey.{surveyed, LatestAt}
 use Rattle.journal.specs.declared.survey.Surveyed.TheVariants as Surveyed
-use Rattle.journal.specs.theory.Survey.{surveyed-bad}
+use Rattle.journal.proofs.theory.Survey.{surveyed-bad}
 use Rattle.admission.specs.Admission.{Refuses}
 use Rattle.admission.specs.theory.Judged.{refuses, refuses-append}
 use Rattle.admission.specs.theory.Door.{rest-refused, all-written}

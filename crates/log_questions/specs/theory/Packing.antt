@@ -10,7 +10,7 @@ use Rattle.journal.specs.Reading.{damaged}
 use Rattle.journal.specs.Adding.{made, unless_refusal}
 use Rattle.journal.specs.Survey.{surveyed}
 use Rattle.journal.specs.declared.survey.Surveyed.TheVariants as Surveyed
-use Rattle.journal.specs.theory.Survey.{surveyed-bad}
+use Rattle.journal.proofs.theory.Survey.{surveyed-bad}
 use Rattle.packing.specs.Packing.{packed, mends_all, pack_reply, remade}
 
 module _ (b : List ℕ) (but : ℕ) (t : List ℕ) (k : ℕ) where

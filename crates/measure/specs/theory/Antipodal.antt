@@ -16,12 +16,12 @@ use Rattle.plane.specs.Shape.{IsShape}
 use Rattle.plane.specs.Direction.{value, support}
 use Rattle.plane.specs.Forms.{up, edges}
 use Rattle.plane.specs.Cycle.{round, corner_round}
-use Rattle.plane.specs.theory.lists.Members.{position-member}
-use Rattle.plane.specs.theory.lists.Sought.{first-le, first-true, first-least}
-use Rattle.plane.specs.theory.forms.Vector.{cross-turned, turned_lt}
-use Rattle.plane.specs.theory.forms.HalfPlane.{Up}
-use Rattle.plane.specs.theory.support.Support.{value-le-support}
-use Rattle.plane.specs.theory.sum.Positions.{edges-at-most, round-inner, round-within}
+use Rattle.plane.proofs.theory.lists.Members.{position-member}
+use Rattle.plane.proofs.theory.lists.Sought.{first-le, first-true, first-least}
+use Rattle.plane.proofs.theory.forms.Vector.{cross-turned, turned_lt}
+use Rattle.plane.proofs.theory.forms.HalfPlane.{Up}
+use Rattle.plane.proofs.theory.support.Support.{value-le-support}
+use Rattle.plane.proofs.theory.sum.Positions.{edges-at-most, round-inner, round-within}
 use Rattle.measure.specs.Half.{Chains, Antipodal}
 use Rattle.measure.specs.theory.CutCorner.{Cut, cut-furthest}
 use Rattle.measure.specs.theory.Chains.{chains-in, up_right, up_left, cross-facing, late-cross, cut_right, cut_left}

@@ -19,15 +19,15 @@ use Rattle.plane.specs.Point.{Point, corner, origin, ◌⊖◌, opposite}
 use Rattle.plane.specs.Turn.{cross}
 use Rattle.plane.specs.Shape.{next, precedes, IsShape}
 use Rattle.plane.specs.Forms.{up, before, Before, NonZero, edges}
-use Rattle.plane.specs.theory.lists.Sought.{true-not-false}
-use Rattle.plane.specs.theory.forms.Precedes.{precedes-irrefl}
-use Rattle.plane.specs.theory.forms.Vector.{cross-swap}
-use Rattle.plane.specs.theory.forms.HalfPlane.{Up, precedes→up, up→precedes, up-opposite, down-up, cross-trans-weak}
-use Rattle.plane.specs.theory.forms.Angle.{Earlier, apart, alike, before→earlier, earlier→before, later→not-before, before-alike}
-use Rattle.plane.specs.theory.sum.Positions.{edge_at, edges_some, in-order-at, in-order-non-zero}
+use Rattle.plane.proofs.theory.lists.Sought.{true-not-false}
+use Rattle.plane.proofs.theory.forms.Precedes.{precedes-irrefl}
+use Rattle.plane.proofs.theory.forms.Vector.{cross-swap}
+use Rattle.plane.proofs.theory.forms.HalfPlane.{Up, precedes→up, up→precedes, up-opposite, down-up, cross-trans-weak}
+use Rattle.plane.proofs.theory.forms.Angle.{Earlier, apart, alike, before→earlier, earlier→before, later→not-before, before-alike}
+use Rattle.plane.proofs.theory.sum.Positions.{edge_at, edges_some, in-order-at, in-order-non-zero}
 use Rattle.polygon.specs.Peak.{Peak}
 use Rattle.measure.specs.Half.{Chains}
-use Rattle.plane.specs.theory.sum.Positions.{shape-in-order}
+use Rattle.plane.proofs.theory.sum.Positions.{shape-in-order}
 use Rattle.measure.specs.theory.CutCorner.{Cut, cut-made}
 
 -- ---- the top is found

@@ -11,15 +11,15 @@ use Rattle.plane.specs.Point.{Point, corner, ◌⊕◌}
 use Rattle.plane.specs.Shape.{IsShape}
 use Rattle.plane.specs.Direction.{value, support, SameWay}
 use Rattle.plane.specs.Forms.{before, edges}
-use Rattle.plane.specs.theory.lists.Sought.{true-not-false}
-use Rattle.plane.specs.theory.forms.Vector.{total, value-cross, value-⊕}
-use Rattle.plane.specs.theory.forms.Angle.{before-trans}
-use Rattle.plane.specs.theory.forms.SameWay.{same-flat}
+use Rattle.plane.proofs.theory.lists.Sought.{true-not-false}
+use Rattle.plane.proofs.theory.forms.Vector.{total, value-cross, value-⊕}
+use Rattle.plane.proofs.theory.forms.Angle.{before-trans}
+use Rattle.plane.proofs.theory.forms.SameWay.{same-flat}
 use Rattle.plane.specs.Cycle.{corner_round}
-use Rattle.plane.specs.theory.sum.Positions.{shape-in-order}
+use Rattle.plane.proofs.theory.sum.Positions.{shape-in-order}
 use Rattle.calipers.specs.theory.Furthest.{to_cut-at, cut-value}
-use Rattle.plane.specs.theory.sum.Positions.{round-step, round-total}
-use Rattle.plane.specs.theory.sum.Positions.{in-order-at}
+use Rattle.plane.proofs.theory.sum.Positions.{round-step, round-total}
+use Rattle.plane.proofs.theory.sum.Positions.{in-order-at}
 
 -- ---- the cut
 

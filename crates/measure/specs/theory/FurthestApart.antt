@@ -12,11 +12,11 @@ use Rattle.plane.specs.Direction.{value}
 use Rattle.plane.specs.Measure.{squared}
 use Rattle.plane.specs.Forms.{up, NonZero}
 use Rattle.plane.specs.Cycle.{round}
-use Rattle.plane.specs.theory.lists.Members.{point-path}
-use Rattle.plane.specs.theory.forms.Squared.{squared-positive}
-use Rattle.plane.specs.theory.forms.Vector.{⊖-zero, value-⊖, quarter-non-zero, turned_lt}
-use Rattle.plane.specs.theory.forms.HalfPlane.{up-opposite}
-use Rattle.plane.specs.theory.sum.Positions.{corner-injective}
+use Rattle.plane.proofs.theory.lists.Members.{point-path}
+use Rattle.plane.proofs.theory.forms.Squared.{squared-positive}
+use Rattle.plane.proofs.theory.forms.Vector.{⊖-zero, value-⊖, quarter-non-zero, turned_lt}
+use Rattle.plane.proofs.theory.forms.HalfPlane.{up-opposite}
+use Rattle.plane.proofs.theory.sum.Positions.{corner-injective}
 use Rattle.measure.specs.Half.{Chains, Antipodal}
 use Rattle.measure.specs.Comparison.{Stands}
 use Rattle.measure.specs.theory.HalfWalk.{antipodal-start}

@@ -12,8 +12,8 @@ use Rattle.plane.specs.Point.{Point, corner}
 use Rattle.plane.specs.Turn.{cross}
 use Rattle.plane.specs.Shape.{IsShape}
 use Rattle.plane.specs.Forms.{edges}
-use Rattle.plane.specs.theory.forms.Vector.{cross-swap, cross-opposite, cross-turned}
-use Rattle.plane.specs.theory.forms.HalfPlane.{cross-trans-weak}
+use Rattle.plane.proofs.theory.forms.Vector.{cross-swap, cross-opposite, cross-turned}
+use Rattle.plane.proofs.theory.forms.HalfPlane.{cross-trans-weak}
 use Rattle.calipers.specs.Side.{onward}
 use Rattle.calipers.specs.theory.Sides.{onward-inner}
 use Rattle.measure.specs.Half.{Chains, Antipodal, goes_right, HalfStep, right, left}

@@ -21,15 +21,15 @@ use Rattle.plane.specs.Turn.{turn, Left}
 use Rattle.plane.specs.Shape.{next, IsShape}
 use Rattle.plane.specs.Direction.{value, support}
 use Rattle.plane.specs.Measure.{greatest, edge_turn, height, edge_squared, width_edge, width_corner}
-use Rattle.plane.specs.theory.lists.Members.{position-member, member-position}
-use Rattle.plane.specs.theory.forms.Vector.{turn-stay}
-use Rattle.plane.specs.theory.support.Support.{value-le-support, support-attained}
-use Rattle.plane.specs.theory.lists.Sought.{first-true, first-least, first-at-most, first-unique}
-use Rattle.plane.specs.theory.lists.Greatest.{greatest-above, greatest-attained, greatest-le}
-use Rattle.plane.specs.theory.forms.Squared.{squared-positive, squared-value}
+use Rattle.plane.proofs.theory.lists.Members.{position-member, member-position}
+use Rattle.plane.proofs.theory.forms.Vector.{turn-stay}
+use Rattle.plane.proofs.theory.support.Support.{value-le-support, support-attained}
+use Rattle.plane.proofs.theory.lists.Sought.{first-true, first-least, first-at-most, first-unique}
+use Rattle.plane.proofs.theory.lists.Greatest.{greatest-above, greatest-attained, greatest-le}
+use Rattle.plane.proofs.theory.forms.Squared.{squared-positive, squared-value}
 use Rattle.measure.specs.Comparison.{Facing}
-use Rattle.plane.specs.theory.sum.Positions.{edge_of, next-left}
-use Rattle.plane.specs.theory.lists.Next.{next-below}
+use Rattle.plane.proofs.theory.sum.Positions.{edge_of, next-left}
+use Rattle.plane.proofs.theory.lists.Next.{next-below}
 
 turn-value : (a b c : Point) → turn a b c ≡ value (quarter (b ⊖ a)) c -ℤ value (quarter (b ⊖ a)) a
 unfolding turn value

@@ -21,9 +21,9 @@ use Rattle.plane.specs.Point.{Point, corner, ◌⊖◌}
 use Rattle.plane.specs.Search.{some}
 use Rattle.plane.specs.Direction.{value}
 use Rattle.plane.specs.Measure.{greatest, squared, length_squared, furthest_pair, length_from, length_to}
-use Rattle.plane.specs.theory.lists.Sought.{first-true, first-at-most, some-here, some-found}
-use Rattle.plane.specs.theory.lists.Greatest.{greatest-above, greatest-attained}
-use Rattle.plane.specs.theory.forms.Squared.{squared-sym, squared-positive}
+use Rattle.plane.proofs.theory.lists.Sought.{first-true, first-at-most, some-here, some-found}
+use Rattle.plane.proofs.theory.lists.Greatest.{greatest-above, greatest-attained}
+use Rattle.plane.proofs.theory.forms.Squared.{squared-sym, squared-positive}
 use Rattle.measure.specs.Comparison.{NotAfter, sooner, level}
 
 -- ---- the longest difference

@@ -13,15 +13,15 @@ use Rattle.plane.specs.Measure.{edge_turn, height}
 use Rattle.plane.specs.Forms.{up, NonZero, edges}
 use Rattle.plane.specs.Direction.{value, support, SameWay}
 use Rattle.plane.specs.Cycle.{round, corner_round}
-use Rattle.plane.specs.theory.forms.Vector.{cross-swap, cross-opposite, cross-turned, opposite-non-zero, quarter-non-zero}
-use Rattle.plane.specs.theory.forms.HalfPlane.{up-opposite}
-use Rattle.plane.specs.theory.forms.Angle.{before-alike}
-use Rattle.plane.specs.theory.forms.SameWay.{neither-same}
-use Rattle.plane.specs.theory.sum.Positions.{edge_of, edge_at, edges_some, in-order-non-zero}
-use Rattle.plane.specs.theory.face.Tied.{Tied, after, behind, tied}
+use Rattle.plane.proofs.theory.forms.Vector.{cross-swap, cross-opposite, cross-turned, opposite-non-zero, quarter-non-zero}
+use Rattle.plane.proofs.theory.forms.HalfPlane.{up-opposite}
+use Rattle.plane.proofs.theory.forms.Angle.{before-alike}
+use Rattle.plane.proofs.theory.forms.SameWay.{neither-same}
+use Rattle.plane.proofs.theory.sum.Positions.{edge_of, edge_at, edges_some, in-order-non-zero}
+use Rattle.plane.proofs.theory.face.Tied.{Tied, after, behind, tied}
 use Rattle.measure.specs.Comparison.{Facing}
 use Rattle.measure.specs.Half.{Chains, Antipodal, HalfStep, right, left}
-use Rattle.plane.specs.theory.sum.Positions.{shape-in-order}
+use Rattle.plane.proofs.theory.sum.Positions.{shape-in-order}
 use Rattle.measure.specs.theory.CutCorner.{Cut, cut-furthest, cut-next}
 use Rattle.measure.specs.theory.Chains.{chains-in, up_right, up_left, chain-turns, cross-facing, back_below, late-cross}
 use Rattle.measure.specs.theory.Chains.{cut_right, cut_left}

@@ -13,7 +13,7 @@ use Rattle.plane.specs.Refusal.{Valid}
 use Rattle.plane.specs.Measure.{squared, length_squared, length_from, length_to, height, edge_squared, width_edge, width_corner, root_below}
 use Rattle.plane.specs.Floor.{Floored, corners}
 use Rattle.plane.specs.Question.{values, reply, ask_length, ask_width}
-use Rattle.plane.specs.theory.refusals.Asked.{asked-given, asked-none, asked-values, rest-none, rest-given}
+use Rattle.plane.proofs.theory.refusals.Asked.{asked-given, asked-none, asked-values, rest-none, rest-given}
 use Rattle.measure.specs.Extremes.{FirstLongest, FirstNarrowest}
 use Rattle.measure.specs.theory.Longest.{squared-le-length, Longest, length-longest, length-from-least, length-to-least}
 use Rattle.measure.specs.theory.Height.{edge_squared-positive, facing-width, width-facing, width-earlier}

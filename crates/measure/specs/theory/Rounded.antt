@@ -13,7 +13,7 @@ use borrow.Author.Tests.{ltb-true, ltb-false, lt-ltb, le-ltb}
 use Rattle.std.proofs.Math.Dec.{ltb}
 use Rattle.plane.specs.Search.{first}
 use Rattle.plane.specs.Measure.{root_below}
-use Rattle.plane.specs.theory.lists.Sought.{first-true, first-least, first-unique}
+use Rattle.plane.proofs.theory.lists.Sought.{first-true, first-least, first-unique}
 
 module _ (n q : ℕ) (some : 0 < q) where
   -- a root is at most its square, times q

@@ -7,7 +7,7 @@ use Rattle.integer.specs.Order.{lt-lt_z}
 use Rattle.plane.specs.Point.{Point}
 use Rattle.plane.specs.Shape.{IsShape}
 use Rattle.plane.specs.Measure.{no_wider, width_edge}
-use Rattle.plane.specs.theory.lists.Sought.{true-not-false}
+use Rattle.plane.proofs.theory.lists.Sought.{true-not-false}
 use Rattle.measure.specs.Comparison.{Measured, Width, none, best}
 use Rattle.measure.specs.theory.Height.{edge_squared-positive}
 use Rattle.measure.specs.theory.Narrowest.{no_wider-fractions, More}

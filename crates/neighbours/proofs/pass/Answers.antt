@@ -9,7 +9,7 @@ use Rattle.plane.specs.Limits.{max_corners}
 use Rattle.plane.specs.Point.{points}
 use Rattle.journal.specs.Format.{size, whole}
 use Rattle.journal.specs.Survey.{next_at}
-use Rattle.journal.specs.theory.Survey.{size-at, next-inside}
+use Rattle.journal.proofs.theory.Survey.{size-at, next-inside}
 use Rattle.neighbours.specs.theory.Search.{Searched, searched-start, searched-sized, searched-sound, searched-next, searched-end}
 use Rattle.neighbours.specs.theory.Search.{searched-met}
 use Rattle.neighbours.proofs.pass.Goals as goal

@@ -22,9 +22,9 @@ use Rattle.journal.specs.Reading.{damaged}
 use Rattle.journal.specs.Current.{around}
 use Rattle.journal.specs.Adding.{added}
 use Rattle.journal.specs.History.{Addition, after, is_finished}
-use Rattle.journal.specs.theory.Read.{recorded-name}
-use Rattle.journal.specs.theory.Added.{finished-accepted, finished-sound}
-use Rattle.journal.specs.theory.History.{after-sound}
+use Rattle.journal.proofs.theory.Read.{recorded-name}
+use Rattle.journal.proofs.theory.Added.{finished-accepted, finished-sound}
+use Rattle.journal.proofs.theory.History.{after-sound}
 use Rattle.neighbours.specs.Nearest.{shape_of, is_as_near, ask_nearest}
 use Rattle.neighbours.specs.Settled.{IsNearest, told, is_closer, Quiet}
 use Rattle.neighbours.specs.theory.Least.{all_in}

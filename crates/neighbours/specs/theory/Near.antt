@@ -8,12 +8,12 @@ use Rattle.std.proofs.Common.{sym, ◌∙◌, ap, subst}
 use Rattle.plane.specs.Point.{Point}
 use Rattle.plane.specs.Shape.{IsShape}
 use Rattle.plane.specs.Distance.{distance}
-use Rattle.plane.specs.theory.lists.Sought.{either-false}
+use Rattle.plane.proofs.theory.lists.Sought.{either-false}
 use Rattle.clearance.specs.theory.Distance.{no_more-refl, more-no_more, no_more-trans, distance-whole}
 use Rattle.journal.specs.Format.{name, bad}
 use Rattle.journal.specs.Reading.{damaged, held}
 use Rattle.journal.specs.Current.{current, keep, is_around, around}
-use Rattle.journal.specs.theory.Kind.{good→facts}
+use Rattle.journal.proofs.theory.Kind.{good→facts}
 use Rattle.neighbours.specs.Nearest.{shape_of, is_as_near, nearest_of}
 use Rattle.neighbours.specs.theory.Least.{All, least_of-step, least_of-first, least_of-snoc}
 use Rattle.neighbours.specs.Settled.{FirstLeast}

@@ -20,7 +20,7 @@ use Rattle.plane.specs.Shape.{IsShape}
 use Rattle.plane.specs.Refusal.{Valid}
 use Rattle.plane.specs.Clearance.{clearance_numbers}
 use Rattle.plane.specs.Distance.{Fraction, over, no_more, distance}
-use Rattle.plane.specs.theory.lists.Flat.{points-length}
+use Rattle.plane.proofs.theory.lists.Flat.{points-length}
 use Rattle.clearance.specs.theory.Distance.{le-no_more, distance-nonneg}
 use Rattle.endian.specs.Bytes.{words_at}
 use Rattle.endian.specs.theory.Bytes.{words_at-length}
@@ -29,8 +29,8 @@ use Rattle.journal.specs.Reading.{damaged, held}
 use Rattle.journal.specs.Current.{current, keep, is_other, is_around, around}
 use Rattle.journal.specs.Survey.{record_at, next_at, Sound, Stated}
 use Rattle.journal.specs.declared.head.Head.{Head}
-use Rattle.journal.specs.theory.Survey.{next-inside}
-use Rattle.journal.specs.theory.Stepping.{records-step, records-end, here-good, later-good, here-valid}
+use Rattle.journal.proofs.theory.Survey.{next-inside}
+use Rattle.journal.proofs.theory.Stepping.{records-step, records-end, here-good, later-good, here-valid}
 use Rattle.neighbours.specs.Nearest.{shape_of, is_as_near, nearest_of, nearest_numbers}
 use Rattle.neighbours.specs.Spacing.{spacing_numbers, fraction_of, Sized}
 use Rattle.neighbours.specs.Search.{near_numbers, is_latest, is_nearer, is_met, kept_of, NearSized, Best, Still, Onward}

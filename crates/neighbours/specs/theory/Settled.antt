@@ -19,15 +19,15 @@ use Rattle.plane.specs.Distance.{no_more, distance}
 use Rattle.plane.specs.Reply.{answered, refused, row, here, later}
 use Rattle.plane.specs.Floor.{on, corners, one_shape}
 use Rattle.plane.specs.Question.{reply, asks}
-use Rattle.plane.specs.theory.refusals.Asked.{asked-none, asked-given, rest-none, rest-given}
+use Rattle.plane.proofs.theory.refusals.Asked.{asked-none, asked-given, rest-none, rest-given}
 use Rattle.journal.specs.Format.{recorded, records, name, content}
 use Rattle.journal.specs.Reading.{damaged, bad_place}
 use Rattle.journal.specs.Current.{keep, is_other, around, too_few_row}
 use Rattle.journal.specs.Adding.{added}
 use Rattle.journal.specs.History.{Addition, step, after, is_finished}
-use Rattle.journal.specs.theory.Read.{recorded-name, recorded-content}
-use Rattle.journal.specs.theory.Added.{finished-accepted, finished-sound, unfinished-seen}
-use Rattle.journal.specs.theory.Current.{keep_append, finished-around}
+use Rattle.journal.proofs.theory.Read.{recorded-name, recorded-content}
+use Rattle.journal.proofs.theory.Added.{finished-accepted, finished-sound, unfinished-seen}
+use Rattle.journal.proofs.theory.Current.{keep_append, finished-around}
 use Rattle.neighbours.specs.Nearest.{shape_of, is_as_near, nearest_of, nearest_numbers, ask_nearest}
 use Rattle.neighbours.specs.Settled.{FirstLeast, IsNearest, told, is_closer, Quiet}
 use Rattle.neighbours.specs.theory.Least.{All, all_in, least_of-only}

@@ -9,8 +9,8 @@ use Rattle.journal.specs.Format.{records, name}
 use Rattle.journal.specs.Reading.{held}
 use Rattle.journal.specs.Current.{is_other}
 use Rattle.journal.specs.Survey.{record_at, next_at}
-use Rattle.journal.specs.theory.Survey.{name-at}
-use Rattle.journal.specs.theory.Stepping.{name-here, name-inside}
+use Rattle.journal.proofs.theory.Survey.{name-at}
+use Rattle.journal.proofs.theory.Stepping.{name-here, name-inside}
 use Rattle.packing.proofs.is_kept.Goals as goal
 use Rattle.packing.proofs.is_kept.Goals.{After-pair_at}
 

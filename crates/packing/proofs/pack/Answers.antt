@@ -1,7 +1,7 @@
 -- `pack` meets its contract: with a table of all places or with none.
 use mathlib.Core.Path.{refl}
 use borrow.Author.Rules.{rules}
-use Rattle.journal.specs.theory.Marks.{marked_empty}
+use Rattle.journal.proofs.theory.Marks.{marked_empty}
 use Rattle.packing.proofs.pack.Goals as goal
 
 pub mark-requires : goal.mark-requires

@@ -8,9 +8,9 @@ use lib.ListN.{length, drop}
 use Rattle.journal.specs.Format.{whole}
 use Rattle.journal.specs.Survey.{next_at}
 use Rattle.journal.specs.Marks.{Marked}
-use Rattle.journal.specs.theory.Survey.{next-inside}
-use Rattle.journal.specs.theory.Stepping.{reached-sound}
-use Rattle.journal.specs.theory.Marks.{marked_next}
+use Rattle.journal.proofs.theory.Survey.{next-inside}
+use Rattle.journal.proofs.theory.Stepping.{reached-sound}
+use Rattle.journal.proofs.theory.Marks.{marked_next}
 use Rattle.packing.specs.theory.Copying.{copied-length}
 use Rattle.packing.specs.theory.Passes.{Packs, packs-start, packs-length, packs-few, packs-skip, packs-room, packs-copy}
 use Rattle.packing.specs.theory.Passes.{packs-end}

@@ -9,8 +9,8 @@ use Rattle.std.proofs.Common.{sym, ◌∙◌, ap, ap₂, subst, append-nil, not-
 use Rattle.std.proofs.lemmas.List.{length-replicate, replicate-append-replicate}
 use Rattle.std.proofs.Math.Seq.{take-nil}
 use Rattle.journal.specs.Adding.{Store, store, made}
-use Rattle.journal.specs.theory.Stores.{made-append}
-use Rattle.journal.specs.theory.Storing.{take-append, made-length}
+use Rattle.journal.proofs.theory.Stores.{made-append}
+use Rattle.journal.proofs.theory.Storing.{take-append, made-length}
 use Rattle.packing.specs.Packing.{mending, mends}
 use Rattle.packing.specs.Copying.{Copied}
 use Rattle.packing.specs.theory.Mends.{mends-empty, mends-append, mends-fewer, mends-rest}

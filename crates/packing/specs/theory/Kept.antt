@@ -10,13 +10,13 @@ use Rattle.std.specs.Prelude.{◌≡◌, refl, Bool, true, false, cond, ◌||◌
 use Rattle.std.proofs.Common.{sym, ◌∙◌, ap, ap₂, true≢false, arith, length-append}
 use borrow.Author.Tests.{eqb-true, eqb-false, ne_eqb, not-true, not-false}
 use Rattle.plane.specs.Floor.{Floored}
-use Rattle.plane.specs.theory.lists.Sought.{either-false}
+use Rattle.plane.proofs.theory.lists.Sought.{either-false}
 use Rattle.journal.specs.Format.{name, content, bad}
 use Rattle.journal.specs.Reading.{damaged, held, nothing, latest}
 use Rattle.journal.specs.Current.{current, keep, is_other}
 use Rattle.journal.specs.Adding.{joined}
-use Rattle.journal.specs.theory.Records.{Entries}
-use Rattle.journal.specs.theory.Current.{current-held}
+use Rattle.journal.proofs.theory.Records.{Entries}
+use Rattle.journal.proofs.theory.Current.{current-held}
 
 -- ---- current records
 

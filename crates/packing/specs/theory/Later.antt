@@ -9,7 +9,7 @@ use Rattle.plane.specs.Question.{written}
 use Rattle.journal.specs.Format.{records}
 use Rattle.journal.specs.Reading.{damaged, latest, ask_read, showing}
 use Rattle.journal.specs.History.{Addition, step, after, is_finished, last_since}
-use Rattle.journal.specs.theory.History.{after_read}
+use Rattle.journal.proofs.theory.History.{after_read}
 use Rattle.packing.specs.Later.{Shown, shown, last_shown}
 
 pub last-shown : (found : Floored) (n : ℕ) (hs : List Addition) (b : List ℕ) → last_since found n hs b ≡ last_shown found n (shown hs b)

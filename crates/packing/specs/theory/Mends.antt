@@ -10,7 +10,7 @@ use Rattle.std.proofs.Common.{sym, ◌∙◌, ap, ap₂, append_assoc, arith, eq
 use Rattle.std.proofs.Math.Seq.{append_snoc, take-nil, drop-nil}
 use Rattle.std.proofs.lemmas.List.{set_at}
 use Rattle.journal.specs.Adding.{Store, store, made}
-use Rattle.journal.specs.theory.Storing.{made-length}
+use Rattle.journal.proofs.theory.Storing.{made-length}
 use Rattle.packing.specs.Packing.{mending, mends}
 
 -- ---- lengths

@@ -16,16 +16,16 @@ use Rattle.std.proofs.Math.ListN.{length, length-append, length-replicate, get_o
 use Rattle.plane.specs.Reply.{refused, here, later}
 use Rattle.plane.specs.Floor.{Floored}
 use Rattle.plane.specs.Question.{reply, output, written}
-use Rattle.plane.specs.theory.refusals.Asked.{asked-given}
+use Rattle.plane.proofs.theory.refusals.Asked.{asked-given}
 use Rattle.endian.specs.Bytes.{pair_at}
 use Rattle.endian.specs.theory.Bytes.{get_d_past}
 use Rattle.journal.specs.Format.{records, name, floor}
 use Rattle.journal.specs.Reading.{damaged, held, latest, ask_read, showing}
 use Rattle.journal.specs.Current.{current, keep, is_other, is_around, around, ask_entry}
 use Rattle.journal.specs.Adding.{joined, end}
-use Rattle.journal.specs.theory.Records.{records-of, records-entries, joined_length, split, end-le}
-use Rattle.journal.specs.theory.Reading.{read-sound}
-use Rattle.journal.specs.theory.Stores.{zeros-torn}
+use Rattle.journal.proofs.theory.Records.{records-of, records-entries, joined_length, split, end-le}
+use Rattle.journal.proofs.theory.Reading.{read-sound}
+use Rattle.journal.proofs.theory.Stores.{zeros-torn}
 use Rattle.packing.specs.Packing.{packed, wanted, mends_all, pack_reply, remade}
 use Rattle.packing.specs.theory.Kept.{current-latest, current-current, keep-keep, kept-gone, kept-latest, kept-current}
 use Rattle.packing.specs.theory.Kept.{sound-current, sound-keep, entries-current, entries-keep, joined-current, joined-keep}

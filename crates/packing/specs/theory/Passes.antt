@@ -17,8 +17,8 @@ use Rattle.journal.specs.Reading.{damaged, held}
 use Rattle.journal.specs.Current.{current, keep, is_other}
 use Rattle.journal.specs.Adding.{joined, made}
 use Rattle.journal.specs.Survey.{record_at, next_at, Reached}
-use Rattle.journal.specs.theory.Records.{whole→facts}
-use Rattle.journal.specs.theory.Stepping.{records-step, records-end, reached-start, reached-next}
+use Rattle.journal.proofs.theory.Records.{whole→facts}
+use Rattle.journal.proofs.theory.Stepping.{records-step, records-end, reached-start, reached-next}
 use Rattle.packing.specs.Packing.{packed, wanted, mends, mends_all}
 use Rattle.packing.specs.Copying.{is_kept, Copied}
 use Rattle.packing.specs.theory.Packed.{packed-le, wanted-length}

@@ -13,13 +13,13 @@ use borrow.Author.Tests.{ltb-false, leb-true, leb-false, le-leb, lt-leb}
 use Rattle.std.proofs.Math.ListN.{length}
 use Rattle.std.proofs.Math.Seq.{set_out}
 use Rattle.plane.specs.Reply.{Reply, answered, refused, Row, NoneApply, First}
-use Rattle.plane.specs.theory.refusals.Rows.{Outcome, given, passed, outcome, first_row-given, first_row-none, first_row-answered}
+use Rattle.plane.proofs.theory.refusals.Rows.{Outcome, given, passed, outcome, first_row-given, first_row-none, first_row-answered}
 use Rattle.journal.specs.Format.{records}
 use Rattle.journal.specs.Reading.{damaged, latest}
 use Rattle.journal.specs.Adding.{Store, made, unless_refusal, Added}
 use Rattle.journal.specs.History.{is_finished}
-use Rattle.journal.specs.theory.Stores.{made-append, one_byte}
-use Rattle.journal.specs.theory.Storing.{made-length}
+use Rattle.journal.proofs.theory.Stores.{made-append, one_byte}
+use Rattle.journal.proofs.theory.Storing.{made-length}
 use Rattle.packing.specs.Packing.{packed, wanted, mends, mends_all, pack_rows, pack_reply, remade, repeated, total}
 use Rattle.packing.specs.theory.Mends.{mends-few, mends-equal, mends-all, left-to-mend}
 use Rattle.packing.specs.theory.Packed.{wanted-length, packed-latest}

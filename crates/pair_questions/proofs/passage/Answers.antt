@@ -14,8 +14,8 @@ use Rattle.admission.specs.theory.Three.{three→none}
 use Rattle.admission.specs.theory.Door.{rest-refused}
 use Rattle.growth.specs.Grown.{grown}
 use Rattle.passage.specs.Passage.{grown_rows, ask_passage}
-use Rattle.passage.specs.theory.Replies.{passage-answers}
-use Rattle.passage.specs.theory.Found.{grown-valid}
+use Rattle.passage.proofs.theory.Replies.{passage-answers}
+use Rattle.passage.proofs.theory.Found.{grown-valid}
 use Rattle.pair_questions.proofs.passage.Goals as goal
 use Rattle.pair_questions.proofs.passage.Goals.{In_default, In_default-admit_grown, In_default-admit_grown-2, Start}
 

@@ -2,7 +2,7 @@
 --     search-refused      nothing is said of what would be found
 use Rattle.plane.specs.Reply.{Reply}
 use Rattle.plane.specs.Floor.{Floored, pair_rows}
-use Rattle.plane.specs.theory.refusals.Rows.{first-not-none}
+use Rattle.plane.proofs.theory.refusals.Rows.{first-not-none}
 use Rattle.separator.specs.Separator.{SeparatorBetween, ask_separator}
 use Rattle.separator.specs.declared.Separator.TheVariants as Separator
 use Rattle.admission.specs.Admission.{Refuses}

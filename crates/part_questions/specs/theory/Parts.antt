@@ -10,12 +10,12 @@ use Rattle.plane.specs.Reply.{Reply, answered, refused, Row, row, NoneApply, her
 use Rattle.plane.specs.Floor.{Floored, Same}
 use Rattle.plane.specs.Output.{no_room, size_rows, room_row, overwritten}
 use Rattle.plane.specs.Question.{Question, reply, output}
-use Rattle.plane.specs.theory.lists.Flat.{numbers-length}
-use Rattle.plane.specs.theory.refusals.Rows.{none-join}
+use Rattle.plane.proofs.theory.lists.Flat.{numbers-length}
+use Rattle.plane.proofs.theory.refusals.Rows.{none-join}
 use Rattle.calipers.specs.Walk.{Walk}
 use Rattle.sums.specs.PlaceAfter.{whole_sum, is_place}
 use Rattle.parts.specs.Part.{part_corners, handed_back, walk_numbers, ask_part}
-use Rattle.parts.specs.theory.Parts.{part_none}
+use Rattle.parts.proofs.theory.Parts.{part_none}
 use Rattle.admission.specs.Admission.{Refuses}
 use Rattle.admission.specs.theory.Judged.{refuses, refuses-append, refuses-join}
 use Rattle.admission.specs.theory.Door.{rest-refused, all-written}

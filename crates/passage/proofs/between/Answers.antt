@@ -8,12 +8,12 @@ use lib.ListN.{length}
 use Rattle.plane.specs.Limits.{max_corners}
 use Rattle.plane.specs.Point.{Point, points, numbers}
 use Rattle.plane.specs.Refusal.{Valid}
-use Rattle.plane.specs.theory.lists.Flat.{points-numbers}
+use Rattle.plane.proofs.theory.lists.Flat.{points-numbers}
 use Rattle.polygon.specs.Front.{Front}
 use Rattle.polygon.specs.theory.Fronts.{overwritten-front, front-points, front_length}
 use Rattle.growth.specs.Grown.{grown}
 use Rattle.passage.specs.Corridor.{corridor_numbers}
-use Rattle.passage.specs.theory.Found.{corridor-passage}
+use Rattle.passage.proofs.theory.Found.{corridor-passage}
 use Rattle.passage.proofs.between.Goals as goal
 use Rattle.passage.proofs.between.Goals.{After-write-m, After-write-n}
 

@@ -16,14 +16,14 @@ use Rattle.plane.specs.Point.{Point, point, points, numbers, corner, origin, opp
 use Rattle.plane.specs.Direction.{value, greater, support}
 use Rattle.plane.specs.Corner.{shape_of, sums, mirrored}
 use Rattle.plane.specs.Refusal.{InRange, outside, some_outside}
-use Rattle.plane.specs.theory.lists.Flat.{Near, points_near, numbers-in_range, points-numbers}
-use Rattle.plane.specs.theory.lists.Greater.{greater-either}
-use Rattle.plane.specs.theory.lists.Sought.{either-false}
-use Rattle.plane.specs.theory.lists.Members.{sums-some, mirrored-some, member-mirrored, mirrored-member, position-member, member-position}
-use Rattle.plane.specs.theory.support.Support.{support-one, value-le-support, support-attained}
-use Rattle.plane.specs.theory.support.Support.{support-append, support-sums, support-mirrored}
-use Rattle.plane.specs.theory.hull.ShapeOf.{shape_of-support, shape_of-shape}
-use Rattle.plane.specs.theory.refusals.Accept.{near→within, within→near, near→in_range, in_range→near}
+use Rattle.plane.proofs.theory.lists.Flat.{Near, points_near, numbers-in_range, points-numbers}
+use Rattle.plane.proofs.theory.lists.Greater.{greater-either}
+use Rattle.plane.proofs.theory.lists.Sought.{either-false}
+use Rattle.plane.proofs.theory.lists.Members.{sums-some, mirrored-some, member-mirrored, mirrored-member, position-member, member-position}
+use Rattle.plane.proofs.theory.support.Support.{support-one, value-le-support, support-attained}
+use Rattle.plane.proofs.theory.support.Support.{support-append, support-sums, support-mirrored}
+use Rattle.plane.proofs.theory.hull.ShapeOf.{shape_of-support, shape_of-shape}
+use Rattle.plane.proofs.theory.refusals.Accept.{near→within, within→near, near→in_range, in_range→near}
 use Rattle.polygon.specs.declared.extent.Extent.{Extent}
 use Rattle.polygon.specs.Point.{at, Small}
 use Rattle.polygon.specs.Extent.{upper_of, highest, Extends, is_out}

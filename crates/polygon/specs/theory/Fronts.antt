@@ -5,7 +5,7 @@ use Rattle.std.specs.Prelude.{◌≡◌, List, ℕ, ◌*◌, ℤ, length, take, 
 use Rattle.std.proofs.Common.{sym, ◌∙◌, ap, arith, length-append, take_at, length-take-le}
 use Rattle.plane.specs.Point.{Point, points, numbers}
 use Rattle.plane.specs.Output.{overwritten}
-use Rattle.plane.specs.theory.lists.Flat.{points-numbers, numbers-length}
+use Rattle.plane.proofs.theory.lists.Flat.{points-numbers, numbers-length}
 use Rattle.polygon.specs.Front.{Front}
 
 pub overwritten-front : (ps : List Point) (n : ℕ) (old out : List ℤ) → n ≡ length ps → out ≡ overwritten (numbers ps) old → Front ps n out

@@ -9,11 +9,11 @@ use Rattle.plane.specs.Point.{Point, corner}
 use Rattle.plane.specs.Turn.{Left}
 use Rattle.plane.specs.Shape.{precedes, IsShape}
 use Rattle.plane.specs.Forms.{Precedes, Ordered}
-use Rattle.plane.specs.theory.forms.Precedes.{Placed, ahead, same, behind, placed, precedes-trans, precedes-asym}
-use Rattle.plane.specs.theory.forms.Precedes.{precedes-irrefl, precedes-reversed, not-precedes}
-use Rattle.plane.specs.theory.forms.Round.{turn-bottom}
-use Rattle.plane.specs.theory.forms.Standard.{all-at, triples-at, shape→ordered}
-use Rattle.plane.specs.theory.sum.Positions.{corner-injective}
+use Rattle.plane.proofs.theory.forms.Precedes.{Placed, ahead, same, behind, placed, precedes-trans, precedes-asym}
+use Rattle.plane.proofs.theory.forms.Precedes.{precedes-irrefl, precedes-reversed, not-precedes}
+use Rattle.plane.proofs.theory.forms.Round.{turn-bottom}
+use Rattle.plane.proofs.theory.forms.Standard.{all-at, triples-at, shape→ordered}
+use Rattle.plane.proofs.theory.sum.Positions.{corner-injective}
 use Rattle.polygon.specs.Peak.{Peak}
 
 -- ---- up to the peak, and down from it

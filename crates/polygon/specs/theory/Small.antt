@@ -9,7 +9,7 @@ use Rattle.integer.specs.Bound.{within-widen, within-add, within-neg}
 use Rattle.plane.specs.Limits.{coordinate-small}
 use Rattle.plane.specs.Point.{Point, points, corner, ◌⊕◌, ◌⊖◌}
 use Rattle.plane.specs.Refusal.{InRange}
-use Rattle.plane.specs.theory.lists.Flat.{points_near}
+use Rattle.plane.proofs.theory.lists.Flat.{points_near}
 use Rattle.polygon.specs.Point.{Small}
 
 small-widen : {m n : ℕ} {p : Point} → m ≤ n → Small m p → Small n p

@@ -12,8 +12,8 @@ use Rattle.plane.specs.Point.{Point, points, corner, ◌⊕◌}
 use Rattle.plane.specs.Direction.{value}
 use Rattle.plane.specs.Cycle.{round, turned}
 use Rattle.plane.specs.Measure.{squared}
-use Rattle.plane.specs.theory.forms.Squared.{squared-nonneg}
-use Rattle.plane.specs.theory.sum.Positions.{edges-at-most}
+use Rattle.plane.proofs.theory.forms.Squared.{squared-nonneg}
+use Rattle.plane.proofs.theory.sum.Positions.{edges-at-most}
 use Rattle.polygon.specs.Point.{at, Small}
 use Rattle.calipers.specs.Image.{image}
 use Rattle.calipers.specs.theory.Image.{image-count, image-valid}

@@ -13,10 +13,10 @@ use Rattle.plane.specs.Point.{Point, corner, ◌⊖◌, ◌∈◌}
 use Rattle.plane.specs.Search.{some}
 use Rattle.plane.specs.Direction.{value}
 use Rattle.plane.specs.Measure.{greatest, squared}
-use Rattle.plane.specs.theory.forms.Squared.{squared-sym, squared-value}
-use Rattle.plane.specs.theory.lists.Sought.{first-true, first-at-most, some-here, some-found}
-use Rattle.plane.specs.theory.lists.Greatest.{greatest-above, greatest-attained}
-use Rattle.plane.specs.theory.lists.Members.{member-position}
+use Rattle.plane.proofs.theory.forms.Squared.{squared-sym, squared-value}
+use Rattle.plane.proofs.theory.lists.Sought.{first-true, first-at-most, some-here, some-found}
+use Rattle.plane.proofs.theory.lists.Greatest.{greatest-above, greatest-attained}
+use Rattle.plane.proofs.theory.lists.Members.{member-position}
 use Rattle.measure.specs.Comparison.{NotAfter, sooner, level}
 use Rattle.reach.specs.Greatest.{greatest_squared, furthest_apart, greatest_first, greatest_second}
 

@@ -22,11 +22,11 @@ use Rattle.plane.specs.Corner.{shape_of}
 use Rattle.plane.specs.Separation.{apart, inside}
 use Rattle.plane.specs.Mean.{times, weight, gap, share, Exactly}
 use Rattle.plane.specs.Clearance.{corners, top, bottom, nearest}
-use Rattle.plane.specs.theory.forms.Vector.{value-⊖, value-turned, value-nonneg}
-use Rattle.plane.specs.theory.forms.Squared.{squared-sym}
-use Rattle.plane.specs.theory.lists.Members.{position-member}
-use Rattle.plane.specs.theory.support.Support.{value-le-support, support-attained}
-use Rattle.plane.specs.theory.hull.ShapeOf.{shape_of-support, shape_of-shape, shape_of-corner}
+use Rattle.plane.proofs.theory.forms.Vector.{value-⊖, value-turned, value-nonneg}
+use Rattle.plane.proofs.theory.forms.Squared.{squared-sym}
+use Rattle.plane.proofs.theory.lists.Members.{position-member}
+use Rattle.plane.proofs.theory.support.Support.{value-le-support, support-attained}
+use Rattle.plane.proofs.theory.hull.ShapeOf.{shape_of-support, shape_of-shape, shape_of-corner}
 use Rattle.separation.specs.theory.Inside.{inside→reach, reach→inside}
 use Rattle.clearance.specs.theory.Bound.{lagrange}
 use Rattle.clearance.specs.theory.Means.{gap-value}

@@ -12,7 +12,7 @@ use Rattle.plane.specs.Measure.{squared}
 use Rattle.plane.specs.Reply.{answered}
 use Rattle.plane.specs.Floor.{Floored, corners, Same}
 use Rattle.plane.specs.Question.{values, reply}
-use Rattle.plane.specs.theory.refusals.Asked.{asked-none, asked-values, rest-none}
+use Rattle.plane.proofs.theory.refusals.Asked.{asked-none, asked-values, rest-none}
 use Rattle.reach.specs.Greatest.{greatest_squared, greatest_first, greatest_second, greatest_numbers, ask_greatest}
 use Rattle.reach.specs.Extremes.{FirstFurthest}
 use Rattle.reach.specs.theory.Furthest.{squared-le-greatest, Furthest, greatest-furthest, first-least, second-least}

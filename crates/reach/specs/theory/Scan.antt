@@ -16,7 +16,7 @@ use Rattle.plane.specs.Point.{Point, points, corner}
 use Rattle.plane.specs.Refusal.{Valid}
 use Rattle.plane.specs.Forms.{edges}
 use Rattle.plane.specs.Measure.{squared}
-use Rattle.plane.specs.theory.forms.Squared.{squared-nonneg}
+use Rattle.plane.proofs.theory.forms.Squared.{squared-nonneg}
 use Rattle.polygon.specs.Peak.{Peak}
 use Rattle.calipers.specs.Image.{image}
 use Rattle.calipers.specs.Places.{Place, place, places}

@@ -14,11 +14,11 @@ use Rattle.plane.specs.Corner.{Corner, mirrored}
 use Rattle.plane.specs.Separation.{differences}
 use Rattle.plane.specs.Forms.{edges}
 use Rattle.plane.specs.Cycle.{round, corner_round, turned}
-use Rattle.plane.specs.theory.lists.Members.{SumOf, sums-member, member-sums, mirrored-member, member-mirrored, position-member}
-use Rattle.plane.specs.theory.lists.Turned.{Turned, ahead, round as round-again, turned-cases}
-use Rattle.plane.specs.theory.forms.Vector.{opposite-opposite}
-use Rattle.plane.specs.theory.hull.ShapeOf.{corner-shape_of}
-use Rattle.plane.specs.theory.sum.Positions.{round-within, edges-at-most, corner-injective}
+use Rattle.plane.proofs.theory.lists.Members.{SumOf, sums-member, member-sums, mirrored-member, member-mirrored, position-member}
+use Rattle.plane.proofs.theory.lists.Turned.{Turned, ahead, round as round-again, turned-cases}
+use Rattle.plane.proofs.theory.forms.Vector.{opposite-opposite}
+use Rattle.plane.proofs.theory.hull.ShapeOf.{corner-shape_of}
+use Rattle.plane.proofs.theory.sum.Positions.{round-within, edges-at-most, corner-injective}
 use Rattle.polygon.specs.Peak.{Peak}
 use Rattle.calipers.specs.Image.{image}
 use Rattle.calipers.specs.Places.{Place, places}

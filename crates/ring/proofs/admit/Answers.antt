@@ -8,7 +8,7 @@ use Rattle.plane.specs.Point.{points}
 use Rattle.plane.specs.Reply.{here, later}
 use Rattle.plane.specs.Refusal.{bad_count}
 use Rattle.plane.specs.Sweep.{too_many_points}
-use Rattle.plane.specs.theory.refusals.Accept.{counted}
+use Rattle.plane.proofs.theory.refusals.Accept.{counted}
 use Rattle.admission.specs.theory.Judged.{refuses, passes, turns-away}
 use Rattle.ring.specs.Ring.{open_ring}
 use Rattle.ring.specs.theory.Rows.{accepted→ring}

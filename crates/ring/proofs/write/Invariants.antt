@@ -5,8 +5,8 @@ use native.Mathlib.Omega.{arith}
 use lib.IntN.{ℤ}
 use lib.ListN.{length, length-map}
 use Rattle.plane.specs.Point.{Point, points, numbers, corner}
-use Rattle.plane.specs.theory.lists.Flat.{numbers-length}
-use Rattle.plane.specs.theory.lists.Filled.{Filled, filled-start, filled-length, filled-corner, filled-done}
+use Rattle.plane.proofs.theory.lists.Flat.{numbers-length}
+use Rattle.plane.proofs.theory.lists.Filled.{Filled, filled-start, filled-length, filled-corner, filled-done}
 use Rattle.ring.specs.theory.Steps.{map_at}
 use Rattle.ring.proofs.write.Given as goal
 

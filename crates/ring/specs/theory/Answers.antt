@@ -11,9 +11,9 @@ use Rattle.plane.specs.Point.{points, numbers, corner}
 use Rattle.plane.specs.Reply.{refused, NoneApply, here, later}
 use Rattle.plane.specs.Search.{some}
 use Rattle.plane.specs.Output.{no_room, room_row}
-use Rattle.plane.specs.theory.lists.Flat.{numbers-length}
-use Rattle.plane.specs.theory.lists.Sought.{some-here, none-some, first-true, first-least}
-use Rattle.plane.specs.theory.refusals.Rows.{none-join}
+use Rattle.plane.proofs.theory.lists.Flat.{numbers-length}
+use Rattle.plane.proofs.theory.lists.Sought.{some-here, none-some, first-true, first-least}
+use Rattle.plane.proofs.theory.refusals.Rows.{none-join}
 use Rattle.admission.specs.Admission.{Refuses}
 use Rattle.admission.specs.theory.Judged.{refuses, refuses-join}
 use Rattle.ring.specs.Ring.{previous, ring_corners, ring_shape, inward_at, first_inward, inward_row, list_rows, ring_rows, ValidRing}

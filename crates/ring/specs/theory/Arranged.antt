@@ -13,9 +13,9 @@ use Rattle.plane.specs.Shape.{IsShape}
 use Rattle.plane.specs.Forms.{All, Precedes}
 use Rattle.plane.specs.Cycle.{turned}
 use Rattle.plane.specs.Output.{overwritten}
-use Rattle.plane.specs.theory.lists.Turned.{Turned, ahead, round, turned-cases, turned-start, turned-step}
-use Rattle.plane.specs.theory.lists.Members.{all-subset, member-reverse}
-use Rattle.plane.specs.theory.forms.Standard.{shape→ordered, shape→sorted}
+use Rattle.plane.proofs.theory.lists.Turned.{Turned, ahead, round, turned-cases, turned-start, turned-step}
+use Rattle.plane.proofs.theory.lists.Members.{all-subset, member-reverse}
+use Rattle.plane.proofs.theory.forms.Standard.{shape→ordered, shape→sorted}
 use Rattle.polygon.specs.Front.{Front}
 use Rattle.polygon.specs.theory.Fronts.{overwritten-front, front-points}
 use Rattle.ring.specs.Round.{last_of, in_sense}

@@ -10,7 +10,7 @@ use Rattle.integer.specs.Order.{lt_z-true, lt_z-false, lt-lt_z, le-lt_z, le_anti
 use Rattle.plane.specs.Point.{Point}
 use Rattle.plane.specs.Turn.{turn, turn-cycle, turn-swap}
 use Rattle.plane.specs.Forms.{All, Precedes}
-use Rattle.plane.specs.theory.lists.Members.{same_point-self, all-subset, reverse-member}
+use Rattle.plane.proofs.theory.lists.Members.{same_point-self, all-subset, reverse-member}
 use Rattle.ring.specs.Round.{last_of, head_of, optional, opened, differing, distinct, clockwise, in_sense, sensed}
 use Rattle.ring.specs.Round.{Apart, bends}
 use Rattle.ring.specs.Ring.{ring_shape}

@@ -12,10 +12,10 @@ use Rattle.std.proofs.Math.Seq.{take-append_seam, drop-append_seam}
 use Rattle.plane.specs.Point.{Point, corner, origin}
 use Rattle.plane.specs.Shape.{next, precedes}
 use Rattle.plane.specs.Forms.{All, Precedes}
-use Rattle.plane.specs.theory.lists.Next.{Following, onward, closing, following}
-use Rattle.plane.specs.theory.lists.Members.{same_point-other}
-use Rattle.plane.specs.theory.forms.Precedes.{precedes-different, precedes-reversed}
-use Rattle.plane.specs.theory.forms.Standard.{all-at}
+use Rattle.plane.proofs.theory.lists.Next.{Following, onward, closing, following}
+use Rattle.plane.proofs.theory.lists.Members.{same_point-other}
+use Rattle.plane.proofs.theory.forms.Precedes.{precedes-different, precedes-reversed}
+use Rattle.plane.proofs.theory.forms.Standard.{all-at}
 use Rattle.ring.specs.Round.{last_of, closed, distinct, sensed}
 use Rattle.ring.specs.Round.{bends}
 use Rattle.ring.specs.Ring.{walked, least_place, open_ring, from_least, ring_shape}

@@ -10,9 +10,9 @@ use Rattle.std.proofs.Math.Decide.{ℕ_discrete}
 use Rattle.plane.specs.Point.{Point, corner, origin, same_point}
 use Rattle.plane.specs.Shape.{next, precedes}
 use Rattle.plane.specs.Forms.{Precedes}
-use Rattle.plane.specs.theory.lists.Next.{Following, onward, closing, following, next-below}
-use Rattle.plane.specs.theory.lists.Members.{same_point-self}
-use Rattle.plane.specs.theory.forms.Precedes.{Placed, ahead, same, behind, placed, not-precedes, precedes-irrefl, precedes-trans}
+use Rattle.plane.proofs.theory.lists.Next.{Following, onward, closing, following, next-below}
+use Rattle.plane.proofs.theory.lists.Members.{same_point-self}
+use Rattle.plane.proofs.theory.forms.Precedes.{Placed, ahead, same, behind, placed, not-precedes, precedes-irrefl, precedes-trans}
 use Rattle.ring.specs.Round.{last_of, head_of, optional, closed, opened, straight, bending}
 use Rattle.ring.specs.Round.{bends}
 use Rattle.ring.specs.Ring.{walked, least_place, open_ring}

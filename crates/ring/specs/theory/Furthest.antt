@@ -16,9 +16,9 @@ use Rattle.plane.specs.Turn.{cross, turn}
 use Rattle.plane.specs.Forms.{Precedes}
 use Rattle.plane.specs.Direction.{value}
 use Rattle.plane.specs.Corner.{Corner}
-use Rattle.plane.specs.theory.lists.Members.{same_point-self, position-member}
-use Rattle.plane.specs.theory.forms.Precedes.{Lower, lower, level, precedes-lower}
-use Rattle.plane.specs.theory.forms.Vector.{turn-edges, value-⊖, value-nonneg}
+use Rattle.plane.proofs.theory.lists.Members.{same_point-self, position-member}
+use Rattle.plane.proofs.theory.forms.Precedes.{Lower, lower, level, precedes-lower}
+use Rattle.plane.proofs.theory.forms.Vector.{turn-edges, value-⊖, value-nonneg}
 use Rattle.ring.specs.Round.{Apart, last_of, head_of, optional, straight, bending, bends}
 use Rattle.ring.specs.theory.Under.{Under}
 use Rattle.ring.specs.theory.Kept.{Ringed, one, round, apart-last, same-swap}

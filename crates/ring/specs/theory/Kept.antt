@@ -8,7 +8,7 @@ use Rattle.std.proofs.Common.{sym, ◌∙◌, ap, subst, true≢false, inl, inr,
 use mathlib.Core.List.Memᴰ
 use mathlib.Core.List.{List, [], ◌∷◌, ◌++◌, map, reverse, reverse-cons}
 use Rattle.plane.specs.Point.{Point, same_point, ◌∈◌}
-use Rattle.plane.specs.theory.lists.Members.{same_point-equal, same_point-self, same_point-other}
+use Rattle.plane.proofs.theory.lists.Members.{same_point-equal, same_point-self, same_point-other}
 use Rattle.ring.specs.Round.{last_of, optional, opened, differing, distinct, Apart, in_sense}
 
 -- ---- neighbours that differ

@@ -12,8 +12,8 @@ use Rattle.std.specs.Int.Signed.{lt_z}
 use Rattle.plane.specs.Point.{Point, corner, origin, same_point}
 use Rattle.plane.specs.Turn.{turn}
 use Rattle.plane.specs.Shape.{next, precedes}
-use Rattle.plane.specs.theory.lists.Next.{next-below}
-use Rattle.plane.specs.theory.lists.Members.{same_point-self}
+use Rattle.plane.proofs.theory.lists.Next.{next-below}
+use Rattle.plane.proofs.theory.lists.Members.{same_point-self}
 use Rattle.ring.specs.Round.{last_of, head_of, optional, closed, opened, differing, distinct, clockwise, in_sense, sensed}
 use Rattle.ring.specs.Round.{straight, bending, bends}
 use Rattle.ring.specs.Ring.{walked, least_place, open_ring, from_least, ring_places, ring_corners, ring_shape}

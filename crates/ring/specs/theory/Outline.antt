@@ -19,13 +19,13 @@ use Rattle.plane.specs.Search.{some as search_some}
 use Rattle.plane.specs.Forms.{Precedes}
 use Rattle.plane.specs.Direction.{value, support}
 use Rattle.plane.specs.Corner.{Corner, shape_of}
-use Rattle.plane.specs.theory.lists.Next.{next-below}
-use Rattle.plane.specs.theory.lists.Members.{member-position, position-member, member-some, same_point-self, point-path}
-use Rattle.plane.specs.theory.lists.Sought.{some-none, none-some}
-use Rattle.plane.specs.theory.forms.Precedes.{Placed, ahead, same, behind, placed}
-use Rattle.plane.specs.theory.forms.Standard.{sorted→shape, ordered→shape}
-use Rattle.plane.specs.theory.support.Support.{value-le-support, support-le, support-subset}
-use Rattle.plane.specs.theory.hull.ShapeOf.{shape_of-support, shape_of-corner, shape_of-shape, shape-known}
+use Rattle.plane.proofs.theory.lists.Next.{next-below}
+use Rattle.plane.proofs.theory.lists.Members.{member-position, position-member, member-some, same_point-self, point-path}
+use Rattle.plane.proofs.theory.lists.Sought.{some-none, none-some}
+use Rattle.plane.proofs.theory.forms.Precedes.{Placed, ahead, same, behind, placed}
+use Rattle.plane.proofs.theory.forms.Standard.{sorted→shape, ordered→shape}
+use Rattle.plane.proofs.theory.support.Support.{value-le-support, support-le, support-subset}
+use Rattle.plane.proofs.theory.hull.ShapeOf.{shape_of-support, shape_of-corner, shape_of-shape, shape-known}
 use Rattle.ring.specs.Round.{optional, differing, distinct, clockwise, sensed, straight}
 use Rattle.ring.specs.Round.{bends}
 use Rattle.ring.specs.Ring.{previous, walked, least_place, open_ring, ring_places, ring_corners, ring_shape, turns_in, corner_of, inward_at}

@@ -12,13 +12,13 @@ use Rattle.plane.specs.Turn.{turn, Left, turn-cycle}
 use Rattle.plane.specs.Shape.{next, IsShape}
 use Rattle.plane.specs.Forms.{NonZero, From, InOrder, edges_to}
 use Rattle.plane.specs.Direction.{value}
-use Rattle.plane.specs.theory.lists.Next.{Following, onward, closing, following}
-use Rattle.plane.specs.theory.lists.Members.{same_point-other}
-use Rattle.plane.specs.theory.forms.Standard.{shape→ordered, shape→sorted}
-use Rattle.plane.specs.theory.forms.Round.{sorted→local}
-use Rattle.plane.specs.theory.forms.Fan.{Fan, Bends}
-use Rattle.plane.specs.theory.forms.Vector.{⊖-self, value-nonneg}
-use Rattle.plane.specs.theory.sum.Positions.{edge-turn}
+use Rattle.plane.proofs.theory.lists.Next.{Following, onward, closing, following}
+use Rattle.plane.proofs.theory.lists.Members.{same_point-other}
+use Rattle.plane.proofs.theory.forms.Standard.{shape→ordered, shape→sorted}
+use Rattle.plane.proofs.theory.forms.Round.{sorted→local}
+use Rattle.plane.proofs.theory.forms.Fan.{Fan, Bends}
+use Rattle.plane.proofs.theory.forms.Vector.{⊖-self, value-nonneg}
+use Rattle.plane.proofs.theory.sum.Positions.{edge-turn}
 use Rattle.ring.specs.Round.{last_of, optional, clockwise, in_sense, sensed, straight}
 use Rattle.ring.specs.Round.{Apart, bending, bends}
 use Rattle.ring.specs.Ring.{ring_shape}

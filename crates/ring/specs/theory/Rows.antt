@@ -6,7 +6,7 @@ use Rattle.plane.specs.Limits.{max_points}
 use Rattle.plane.specs.Point.{points}
 use Rattle.plane.specs.Reply.{NoneApply}
 use Rattle.plane.specs.Sweep.{too_many_points}
-use Rattle.plane.specs.theory.refusals.Accept.{near→in_range, in_range→near, counted, count-good}
+use Rattle.plane.proofs.theory.refusals.Accept.{near→in_range, in_range→near, counted, count-good}
 use Rattle.ring.specs.Ring.{open_ring, list_rows, ValidRing}
 
 module _ (l : List ℤ) where

@@ -21,7 +21,7 @@ use Rattle.plane.specs.Point.{Point, ◌⊖◌, corner, same_point}
 use Rattle.plane.specs.Direction.{value}
 use Rattle.plane.specs.Turn.{turn}
 use Rattle.plane.specs.Shape.{next, precedes}
-use Rattle.plane.specs.theory.lists.Next.{Following, onward, closing, following}
+use Rattle.plane.proofs.theory.lists.Next.{Following, onward, closing, following}
 use Rattle.ring.specs.Round.{last_of, head_of, optional, closed, opened, clockwise, in_sense, straight, bending, bends}
 use Rattle.ring.specs.Ring.{previous, walked, least_place}
 

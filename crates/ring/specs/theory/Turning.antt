@@ -13,13 +13,13 @@ use Rattle.plane.specs.Point.{Point, corner, origin, ◌⊖◌}
 use Rattle.plane.specs.Turn.{cross, turn, Left}
 use Rattle.plane.specs.Shape.{next, precedes, IsShape}
 use Rattle.plane.specs.Forms.{Precedes, Before, NonZero, InOrder, edges_to, edges, up}
-use Rattle.plane.specs.theory.lists.Next.{Following, onward, closing, following}
-use Rattle.plane.specs.theory.forms.Precedes.{precedes-irrefl}
-use Rattle.plane.specs.theory.forms.Vector.{cross-nonzero, turn-edges}
-use Rattle.plane.specs.theory.forms.HalfPlane.{Up, precedes→up, up→precedes, precedes→down, down→precedes, up-clash}
-use Rattle.plane.specs.theory.forms.Angle.{Earlier, apart, alike, before→earlier, before-cross}
-use Rattle.plane.specs.theory.forms.Standard.{sorted→shape}
-use Rattle.plane.specs.theory.sum.Positions.{edges_some, edge_at, in-order-at, shape-in-order, next-left}
+use Rattle.plane.proofs.theory.lists.Next.{Following, onward, closing, following}
+use Rattle.plane.proofs.theory.forms.Precedes.{precedes-irrefl}
+use Rattle.plane.proofs.theory.forms.Vector.{cross-nonzero, turn-edges}
+use Rattle.plane.proofs.theory.forms.HalfPlane.{Up, precedes→up, up→precedes, precedes→down, down→precedes, up-clash}
+use Rattle.plane.proofs.theory.forms.Angle.{Earlier, apart, alike, before→earlier, before-cross}
+use Rattle.plane.proofs.theory.forms.Standard.{sorted→shape}
+use Rattle.plane.proofs.theory.sum.Positions.{edges_some, edge_at, in-order-at, shape-in-order, next-left}
 use Rattle.ring.specs.Ring.{previous, turns_in}
 use Rattle.ring.specs.theory.Steps.{previous-below, previous-after}
 use Rattle.ring.specs.theory.Inward.{first-inside, apart-inside, both-inside, few-inside}

@@ -12,7 +12,7 @@ use mathlib.Core.List.{List, [], ◌∷◌, ◌++◌, reverse, reverse-cons}
 use Rattle.std.proofs.Math.ListN.{length}
 use Rattle.plane.specs.Point.{Point, corner, same_point}
 use Rattle.plane.specs.Shape.{next}
-use Rattle.plane.specs.theory.lists.Next.{next-below}
+use Rattle.plane.proofs.theory.lists.Next.{next-below}
 use Rattle.ring.specs.Round.{head_of, last_of, optional, closed, differing, distinct, clockwise, in_sense, sensed, straight, bending}
 use Rattle.ring.specs.Round.{bends}
 use Rattle.ring.specs.Ring.{walked, least_place, open_ring, ring_places, ring_corners}

@@ -14,9 +14,9 @@ use Rattle.plane.specs.Shape.{IsShape}
 use Rattle.plane.specs.Output.{room_row}
 use Rattle.plane.specs.Floor.{on}
 use Rattle.plane.specs.Question.{reply}
-use Rattle.plane.specs.theory.lists.Flat.{Near, points_near, numbers-length, points-numbers, numbers-in_range}
-use Rattle.plane.specs.theory.refusals.Asked.{asked-answered}
-use Rattle.plane.specs.theory.refusals.Rows.{none-append}
+use Rattle.plane.proofs.theory.lists.Flat.{Near, points_near, numbers-length, points-numbers, numbers-in_range}
+use Rattle.plane.proofs.theory.refusals.Asked.{asked-answered}
+use Rattle.plane.proofs.theory.refusals.Rows.{none-append}
 use Rattle.ring.specs.Round.{head_of, last_of, clockwise, sensed, straight, bending, bends}
 use Rattle.ring.specs.Ring.{open_ring, ring_places, ring_corners, ring_shape, inward_row, list_rows, ValidRing, ask_ring}
 use Rattle.ring.specs.theory.Steps.{map_at, sense-length}

@@ -20,13 +20,13 @@ use Rattle.plane.specs.Shape.{IsShape}
 use Rattle.plane.specs.Direction.{value, support}
 use Rattle.plane.specs.Corner.{shape_of, sums, mirrored}
 use Rattle.plane.specs.Separation.{inside, differences, apart}
-use Rattle.plane.specs.theory.lists.Sought.{tests_agree}
-use Rattle.plane.specs.theory.lists.Members.{sums-member, member-sums, mirrored-member, member-mirrored, sums-some, mirrored-some}
-use Rattle.plane.specs.theory.forms.Vector.{value-⊕, value-opposite, value-turned, value-origin, turned_lt}
-use Rattle.plane.specs.theory.support.Support.{support-attained, support-sums}
-use Rattle.plane.specs.theory.hull.ShapeOf.{shape_of-support, shape_of-shape, shape-known}
+use Rattle.plane.proofs.theory.lists.Sought.{tests_agree}
+use Rattle.plane.proofs.theory.lists.Members.{sums-member, member-sums, mirrored-member, member-mirrored, sums-some, mirrored-some}
+use Rattle.plane.proofs.theory.forms.Vector.{value-⊕, value-opposite, value-turned, value-origin, turned_lt}
+use Rattle.plane.proofs.theory.support.Support.{support-attained, support-sums}
+use Rattle.plane.proofs.theory.hull.ShapeOf.{shape_of-support, shape_of-shape, shape-known}
 use Rattle.plane.specs.VectorSum.{vector_sum}
-use Rattle.plane.specs.theory.sum.EdgeSum.{vector_sum-shape}
+use Rattle.plane.proofs.theory.sum.EdgeSum.{vector_sum-shape}
 use Rattle.separation.specs.theory.Inside.{inside→reach, Beyond, outside→direction, direction→outside, inside-shape_of}
 
 -- ---- differences

@@ -14,10 +14,10 @@ use Rattle.plane.specs.Shape.{next, IsShape}
 use Rattle.plane.specs.Direction.{value}
 use Rattle.plane.specs.Corner.{shape_of}
 use Rattle.plane.specs.Separation.{inside, differences, apart, not_left, on_rim, touching, relation_number}
-use Rattle.plane.specs.theory.lists.Members.{point-discrete}
-use Rattle.plane.specs.theory.lists.Sought.{some-witness, some-none}
-use Rattle.plane.specs.theory.forms.Vector.{cross-swap, value-origin, square-positive}
-use Rattle.plane.specs.theory.hull.ShapeOf.{shape_of-shape}
+use Rattle.plane.proofs.theory.lists.Members.{point-discrete}
+use Rattle.plane.proofs.theory.lists.Sought.{some-witness, some-none}
+use Rattle.plane.proofs.theory.forms.Vector.{cross-swap, value-origin, square-positive}
+use Rattle.plane.proofs.theory.hull.ShapeOf.{shape_of-shape}
 use Rattle.separation.specs.theory.Apart.{differences-some, apart-shape_of}
 use Rattle.separation.specs.theory.InsideShape.{polygon-origin→crosses, polygon-crosses→origin, segment-origin→opposed}
 use Rattle.separation.specs.theory.InsideShape.{segment-opposed→origin, point-inside→equal, point-equal→inside}

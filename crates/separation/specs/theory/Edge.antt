@@ -17,9 +17,9 @@ use Rattle.plane.specs.Shape.{next, IsShape}
 use Rattle.plane.specs.Direction.{value, support, SameWay}
 use Rattle.plane.specs.Separation.{not_left}
 use Rattle.plane.specs.Cut.{outward}
-use Rattle.plane.specs.theory.lists.Sought.{true-not-false}
-use Rattle.plane.specs.theory.forms.Vector.{value-origin, value-turned, square-positive, positive-non-zero}
-use Rattle.plane.specs.theory.support.Support.{support-attained}
+use Rattle.plane.proofs.theory.lists.Sought.{true-not-false}
+use Rattle.plane.proofs.theory.forms.Vector.{value-origin, value-turned, square-positive, positive-non-zero}
+use Rattle.plane.proofs.theory.support.Support.{support-attained}
 use Rattle.polygon.specs.Point.{Small}
 use Rattle.separation.specs.Around.{cross_at, right_of, origin_on, origin_in}
 use Rattle.separation.specs.theory.InsideShape.{turn-origin}

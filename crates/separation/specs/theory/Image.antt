@@ -13,10 +13,10 @@ use Rattle.plane.specs.Corner.{shape_of, sums, mirrored}
 use Rattle.plane.specs.Forms.{edges}
 use Rattle.plane.specs.Separation.{differences, relation_number}
 use Rattle.plane.specs.VectorSum.{vector_sum}
-use Rattle.plane.specs.theory.forms.Vector.{opposite-opposite}
-use Rattle.plane.specs.theory.lists.Flat.{points-length}
-use Rattle.plane.specs.theory.sum.Positions.{edges-at-most}
-use Rattle.plane.specs.theory.sum.EdgeSum.{vector_sum-shape}
+use Rattle.plane.proofs.theory.forms.Vector.{opposite-opposite}
+use Rattle.plane.proofs.theory.lists.Flat.{points-length}
+use Rattle.plane.proofs.theory.sum.Positions.{edges-at-most}
+use Rattle.plane.proofs.theory.sum.EdgeSum.{vector_sum-shape}
 use Rattle.polygon.specs.declared.extent.Extent.{Extent}
 use Rattle.polygon.specs.Extent.{highest, Extends}
 use Rattle.sums.specs.Advance.{next_corners}

@@ -19,11 +19,11 @@ use Rattle.plane.specs.Shape.{IsShape}
 use Rattle.plane.specs.Direction.{value, support}
 use Rattle.plane.specs.Corner.{Corner, shape_of}
 use Rattle.plane.specs.Separation.{same_corners, inside}
-use Rattle.plane.specs.theory.lists.Sought.{tests_agree}
-use Rattle.plane.specs.theory.lists.Members.{point-discrete, same_point-equal, same_point-self}
-use Rattle.plane.specs.theory.support.Support.{value-le-support, support-attained, support-le, support-subset}
-use Rattle.plane.specs.theory.hull.Hull.{shape_of-nonempty}
-use Rattle.plane.specs.theory.hull.ShapeOf.{shape_of-support, shape_of-shape, shape_of-corner, shape-known, shape-own, shape-extensional}
+use Rattle.plane.proofs.theory.lists.Sought.{tests_agree}
+use Rattle.plane.proofs.theory.lists.Members.{point-discrete, same_point-equal, same_point-self}
+use Rattle.plane.proofs.theory.support.Support.{value-le-support, support-attained, support-le, support-subset}
+use Rattle.plane.proofs.theory.hull.Hull.{shape_of-nonempty}
+use Rattle.plane.proofs.theory.hull.ShapeOf.{shape_of-support, shape_of-shape, shape_of-corner, shape-known, shape-own, shape-extensional}
 
 -- ---- tests
 

@@ -20,9 +20,9 @@ use Rattle.plane.specs.Direction.{value, support}
 use Rattle.plane.specs.Separation.{inside}
 use Rattle.plane.specs.Forms.{NonZero}
 use Rattle.plane.specs.Cut.{outward}
-use Rattle.plane.specs.theory.lists.Members.{point-discrete, member-some}
-use Rattle.plane.specs.theory.forms.Vector.{⊖-zero, turn_level, square-positive}
-use Rattle.plane.specs.theory.support.Support.{value-le-support, support-le}
+use Rattle.plane.proofs.theory.lists.Members.{point-discrete, member-some}
+use Rattle.plane.proofs.theory.forms.Vector.{⊖-zero, turn_level, square-positive}
+use Rattle.plane.proofs.theory.support.Support.{value-le-support, support-le}
 use Rattle.separation.specs.theory.Inside.{inside→reach, reach→inside, direction→outside, inside-refl}
 use Rattle.separation.specs.theory.Sector.{value-outward, edge-outermost, left→reached}
 

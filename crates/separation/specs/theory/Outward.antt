@@ -11,11 +11,11 @@ use Rattle.plane.specs.Search.{some}
 use Rattle.plane.specs.Shape.{IsShape}
 use Rattle.plane.specs.Corner.{sums}
 use Rattle.plane.specs.VectorSum.{vector_sum}
-use Rattle.plane.specs.theory.lists.Members.{sums-some}
-use Rattle.plane.specs.theory.lists.Sought.{some-witness}
+use Rattle.plane.proofs.theory.lists.Members.{sums-some}
+use Rattle.plane.proofs.theory.lists.Sought.{some-witness}
 use Rattle.plane.specs.Direction.{SameWay}
-use Rattle.plane.specs.theory.hull.ShapeOf.{shape_of-shape}
-use Rattle.plane.specs.theory.sum.EdgeSum.{vector_sum-shape}
+use Rattle.plane.proofs.theory.hull.ShapeOf.{shape_of-shape}
+use Rattle.plane.proofs.theory.sum.EdgeSum.{vector_sum-shape}
 use Rattle.polygon.specs.Point.{Small}
 use Rattle.calipers.specs.Walk.{Walk, begun, advanced, stepped, At}
 use Rattle.calipers.specs.theory.Steps.{at-stepped}

@@ -18,11 +18,11 @@ use Rattle.plane.specs.Refusal.{InRange}
 use Rattle.plane.specs.Forms.{edges}
 use Rattle.plane.specs.Cycle.{corner_round}
 use Rattle.plane.specs.Cut.{outward}
-use Rattle.plane.specs.theory.lists.Flat.{Near, points_near}
-use Rattle.plane.specs.theory.lists.Members.{point-path}
-use Rattle.plane.specs.theory.forms.Vector.{step_back, ⊕-comm, step-moved}
-use Rattle.plane.specs.theory.forms.SameWay.{same_sum}
-use Rattle.plane.specs.theory.sum.Positions.{round-within, round-step, edges-at-most, shape-in-order}
+use Rattle.plane.proofs.theory.lists.Flat.{Near, points_near}
+use Rattle.plane.proofs.theory.lists.Members.{point-path}
+use Rattle.plane.proofs.theory.forms.Vector.{step_back, ⊕-comm, step-moved}
+use Rattle.plane.proofs.theory.forms.SameWay.{same_sum}
+use Rattle.plane.proofs.theory.sum.Positions.{round-within, round-step, edges-at-most, shape-in-order}
 use Rattle.polygon.specs.Point.{Small}
 use Rattle.calipers.specs.Walk.{Walk, here, passed, advanced, At}
 use Rattle.calipers.specs.theory.Standing.{Taken, taken-same, Step, ended, left, right, both, step}

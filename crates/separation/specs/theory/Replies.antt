@@ -11,8 +11,8 @@ use Rattle.plane.specs.Reply.{answered}
 use Rattle.plane.specs.Separation.{inside, apart, touching, relation_number, inside_number}
 use Rattle.plane.specs.Floor.{Floored, corners, Same}
 use Rattle.plane.specs.Question.{reply, ask_relation, ask_inside}
-use Rattle.plane.specs.theory.support.Support.{value-le-support, support-attained}
-use Rattle.plane.specs.theory.refusals.Asked.{asked-none, asked-values, rest-none}
+use Rattle.plane.proofs.theory.support.Support.{value-le-support, support-attained}
+use Rattle.plane.proofs.theory.refusals.Asked.{asked-none, asked-values, rest-none}
 use Rattle.separation.specs.Directions.{IsApart, IsTouching, IsOverlapping}
 use Rattle.separation.specs.theory.Inside.{inside→reach, reach→inside, Beyond, outside→direction}
 use Rattle.separation.specs.theory.Apart.{apart→direction, direction→apart}

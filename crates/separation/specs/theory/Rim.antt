@@ -24,12 +24,12 @@ use Rattle.plane.specs.Corner.{shape_of}
 use Rattle.plane.specs.Separation.{differences, apart, not_left, on_rim, touching}
 use Rattle.plane.specs.Forms.{NonZero}
 use Rattle.plane.specs.Cut.{outward}
-use Rattle.plane.specs.theory.lists.Members.{point-path}
-use Rattle.plane.specs.theory.lists.Sought.{some-witness, some-none}
-use Rattle.plane.specs.theory.forms.Vector.{value-origin, value-turned, turn_level, opposite-non-zero, turned_le}
-use Rattle.plane.specs.theory.support.Support.{value-le-support, support-attained, support-le}
-use Rattle.plane.specs.theory.hull.ShapeOf.{shape_of-support, shape_of-shape}
-use Rattle.plane.specs.theory.lists.Sought.{tests_agree}
+use Rattle.plane.proofs.theory.lists.Members.{point-path}
+use Rattle.plane.proofs.theory.lists.Sought.{some-witness, some-none}
+use Rattle.plane.proofs.theory.forms.Vector.{value-origin, value-turned, turn_level, opposite-non-zero, turned_le}
+use Rattle.plane.proofs.theory.support.Support.{value-le-support, support-attained, support-le}
+use Rattle.plane.proofs.theory.hull.ShapeOf.{shape_of-support, shape_of-shape}
+use Rattle.plane.proofs.theory.lists.Sought.{tests_agree}
 use Rattle.separation.specs.theory.Apart.{value-difference, differences-some, difference-member, member-difference, DifferenceOf}
 use Rattle.separation.specs.theory.Apart.{apart-sym}
 use Rattle.separation.specs.theory.InsideShape.{turn-origin}

@@ -19,10 +19,10 @@ use Rattle.plane.specs.Shape.{next, IsShape}
 use Rattle.plane.specs.Direction.{value, support}
 use Rattle.plane.specs.Forms.{NonZero}
 use Rattle.plane.specs.Cut.{outward}
-use Rattle.plane.specs.theory.lists.Members.{point-path, member-position, position-member}
-use Rattle.plane.specs.theory.lists.Next.{next-below, preceding}
-use Rattle.plane.specs.theory.sum.Positions.{edge-turn, next-left}
-use Rattle.plane.specs.theory.support.Support.{value-le-support, support-attained}
+use Rattle.plane.proofs.theory.lists.Members.{point-path, member-position, position-member}
+use Rattle.plane.proofs.theory.lists.Next.{next-below, preceding}
+use Rattle.plane.proofs.theory.sum.Positions.{edge-turn, next-left}
+use Rattle.plane.proofs.theory.support.Support.{value-le-support, support-attained}
 
 -- ---- the outer normal of an edge
 

@@ -10,13 +10,13 @@ use Rattle.plane.specs.Point.{Point, points, corner, ◌⊕◌}
 use Rattle.plane.specs.Shape.{next}
 use Rattle.plane.specs.Forms.{edges}
 use Rattle.plane.specs.VectorSum.{path}
-use Rattle.plane.specs.theory.sum.Path.{along-length}
+use Rattle.plane.proofs.theory.sum.Path.{along-length}
 use Rattle.plane.specs.VectorSum.{vector_sum, join_edges}
-use Rattle.plane.specs.theory.sum.EdgeSum.{join_edges-length}
-use Rattle.plane.specs.theory.lists.Next.{Following, onward, closing, following}
+use Rattle.plane.proofs.theory.sum.EdgeSum.{join_edges-length}
+use Rattle.plane.proofs.theory.lists.Next.{Following, onward, closing, following}
 use Rattle.plane.specs.Cycle.{round, corner_round}
 use Rattle.calipers.specs.Walk.{here, begun, finished, advanced, stepped, remaining, At}
-use Rattle.plane.specs.theory.sum.Positions.{edges-at-most, round-inner}
+use Rattle.plane.proofs.theory.sum.Positions.{edges-at-most, round-inner}
 use Rattle.calipers.specs.theory.Places.{finished-ended}
 use Rattle.calipers.specs.theory.Sides.{round-end}
 use Rattle.calipers.specs.theory.Steps.{remaining-begin, remaining-here, remaining-over, at-stepped, remaining-stepped, here-stepped}

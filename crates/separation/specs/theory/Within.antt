@@ -21,10 +21,10 @@ use Rattle.plane.specs.Direction.{value, support}
 use Rattle.plane.specs.Forms.{edges}
 use Rattle.plane.specs.Cycle.{corner_round}
 use Rattle.plane.specs.Separation.{inside}
-use Rattle.plane.specs.theory.lists.Members.{point-path, position-member, member-position}
-use Rattle.plane.specs.theory.lists.Sought.{tests_agree, true-not-false}
-use Rattle.plane.specs.theory.sum.Positions.{round-inner, round-within, edges-at-most, edge_at}
-use Rattle.plane.specs.theory.support.Support.{value-le-support, support-same}
+use Rattle.plane.proofs.theory.lists.Members.{point-path, position-member, member-position}
+use Rattle.plane.proofs.theory.lists.Sought.{tests_agree, true-not-false}
+use Rattle.plane.proofs.theory.sum.Positions.{round-inner, round-within, edges-at-most, edge_at}
+use Rattle.plane.proofs.theory.support.Support.{value-le-support, support-same}
 use Rattle.calipers.specs.Places.{Standing}
 use Rattle.calipers.specs.theory.Standing.{Taken, standing-swap}
 use Rattle.calipers.specs.theory.Furthest.{place-furthest}

@@ -9,10 +9,10 @@ use Rattle.integer.specs.Bound.{Within}
 use Rattle.integer.specs.Machine.{machine, known, machine-read, machine-fits, machine-is}
 use Rattle.plane.specs.Point.{Point, points, opposite}
 use Rattle.plane.specs.Direction.{support}
-use Rattle.plane.specs.theory.support.Bounds.{support-size}
+use Rattle.plane.proofs.theory.support.Bounds.{support-size}
 use Rattle.polygon.specs.Point.{at, Small}
 use Rattle.polygon.specs.theory.Small.{small-wide}
-use Rattle.plane.specs.theory.direction.Rows.{direction-near}
+use Rattle.plane.proofs.theory.direction.Rows.{direction-near}
 use Rattle.separator.specs.theory.Below.{below-support}
 use Rattle.separator.specs.theory.Direction.{good-small, opposite-good}
 use Rattle.separator.proofs.is_below.Goals as goal

@@ -4,7 +4,7 @@ use Prim.Native.Nat.{◌^◌}
 use mir.Syntax.{w32}
 use mir.Val.{to_z, of_z}
 use Rattle.plane.specs.Point.{Point, point}
-use Rattle.plane.specs.theory.direction.Rows.{direction-some}
+use Rattle.plane.proofs.theory.direction.Rows.{direction-some}
 use Rattle.polygon.specs.theory.Small.{small-wide}
 use Rattle.separator.specs.declared.Separator.TheVariants.{Direction}
 use Rattle.separator.specs.theory.Direction.{good-small, primitive-small}

@@ -15,11 +15,11 @@ use Rattle.plane.specs.Direction.{value, support}
 use Rattle.plane.specs.Forms.{NonZero}
 use Rattle.plane.specs.Corner.{shape_of}
 use Rattle.plane.specs.Separation.{differences, apart}
-use Rattle.plane.specs.theory.lists.Members.{member-position, position-member}
-use Rattle.plane.specs.theory.lists.Sought.{every-all, all-every, tests_agree}
-use Rattle.plane.specs.theory.forms.Vector.{value-turned, below-non-zero}
-use Rattle.plane.specs.theory.support.Support.{value-le-support, support-attained}
-use Rattle.plane.specs.theory.hull.ShapeOf.{shape_of-support}
+use Rattle.plane.proofs.theory.lists.Members.{member-position, position-member}
+use Rattle.plane.proofs.theory.lists.Sought.{every-all, all-every, tests_agree}
+use Rattle.plane.proofs.theory.forms.Vector.{value-turned, below-non-zero}
+use Rattle.plane.proofs.theory.support.Support.{value-le-support, support-attained}
+use Rattle.plane.proofs.theory.hull.ShapeOf.{shape_of-support}
 use Rattle.separation.specs.theory.Apart.{value-difference, differences-some, difference-member, direction→apart}
 use Rattle.plane.specs.Offer.{below}
 

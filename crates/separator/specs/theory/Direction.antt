@@ -19,12 +19,12 @@ use Rattle.plane.specs.Furthest.{bad_direction, parts_divisor}
 use Rattle.plane.specs.Primitive.{primitive}
 use Rattle.plane.specs.Forms.{NonZero}
 use Rattle.plane.specs.Offer.{below}
-use Rattle.plane.specs.theory.lists.Sought.{tests_agree}
-use Rattle.plane.specs.theory.forms.SameWay.{same-sym}
-use Rattle.plane.specs.theory.direction.Rows.{direction-near, direction-some, near-direction, some-divisor}
-use Rattle.plane.specs.theory.direction.Scaled.{same-value}
-use Rattle.plane.specs.theory.direction.Primitive.{primitive-multiple}
-use Rattle.plane.specs.theory.forms.Vector.{opposite-non-zero}
+use Rattle.plane.proofs.theory.lists.Sought.{tests_agree}
+use Rattle.plane.proofs.theory.forms.SameWay.{same-sym}
+use Rattle.plane.proofs.theory.direction.Rows.{direction-near, direction-some, near-direction, some-divisor}
+use Rattle.plane.proofs.theory.direction.Scaled.{same-value}
+use Rattle.plane.proofs.theory.direction.Primitive.{primitive-multiple}
+use Rattle.plane.proofs.theory.forms.Vector.{opposite-non-zero}
 use Rattle.polygon.specs.Point.{Small}
 use Rattle.separator.specs.theory.Below.{below→all, all→below}
 

@@ -14,8 +14,8 @@ use Rattle.plane.specs.Furthest.{bad_direction}
 use Rattle.plane.specs.Primitive.{primitive}
 use Rattle.plane.specs.Offer.{below}
 use Rattle.plane.specs.VectorSum.{vector_sum}
-use Rattle.plane.specs.theory.direction.Rows.{direction-some, near-direction}
-use Rattle.plane.specs.theory.direction.Primitive.{primitive-same, primitive-bad, primitive-common}
+use Rattle.plane.proofs.theory.direction.Rows.{direction-some, near-direction}
+use Rattle.plane.proofs.theory.direction.Primitive.{primitive-same, primitive-bad, primitive-common}
 use Rattle.calipers.specs.Image.{image}
 use Rattle.separation.specs.Outward.{Outward}
 use Rattle.separation.specs.Around.{right_of, origin_on, origin_in}

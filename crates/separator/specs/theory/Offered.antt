@@ -14,9 +14,9 @@ use Rattle.plane.specs.Separation.{apart}
 use Rattle.plane.specs.Offer.{below, offer_number}
 use Rattle.plane.specs.Floor.{Floored, corners, pair_rows, Same}
 use Rattle.plane.specs.Question.{Question, values, reply, ask_offer}
-use Rattle.plane.specs.theory.lists.Sought.{true-not-false}
-use Rattle.plane.specs.theory.refusals.Asked.{asked-given, asked-refused, asked-none, asked-answered, asked-values, asked-shapes}
-use Rattle.plane.specs.theory.refusals.Asked.{shapes-given, rest-none}
+use Rattle.plane.proofs.theory.lists.Sought.{true-not-false}
+use Rattle.plane.proofs.theory.refusals.Asked.{asked-given, asked-refused, asked-none, asked-answered, asked-values, asked-shapes}
+use Rattle.plane.proofs.theory.refusals.Asked.{shapes-given, rest-none}
 use Rattle.separator.specs.declared.Separator.{Separator}
 use Rattle.separator.specs.declared.Separator.TheVariants.{Direction, Nothing}
 use Rattle.separator.specs.Separator.{Separates, Finds, separator_numbers, ask_separator, SeparatorBetween}

@@ -19,8 +19,8 @@ use Rattle.plane.specs.Face.{face_first, face_last}
 use Rattle.plane.specs.Furthest.{direction_rows}
 use Rattle.plane.specs.Floor.{on}
 use Rattle.plane.specs.Question.{Question, ask_furthest}
-use Rattle.plane.specs.theory.support.Bounds.{support-size}
-use Rattle.plane.specs.theory.direction.Rows.{direction-near, direction-some}
+use Rattle.plane.proofs.theory.support.Bounds.{support-size}
+use Rattle.plane.proofs.theory.direction.Rows.{direction-near, direction-some}
 use Rattle.polygon.specs.Point.{Small}
 use Rattle.polygon.specs.theory.Small.{small-wide}
 use Rattle.admission.specs.Admission.{Judged}

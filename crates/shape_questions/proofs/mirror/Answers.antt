@@ -10,9 +10,9 @@ use Rattle.plane.specs.Point.{points}
 use Rattle.plane.specs.Refusal.{Valid}
 use Rattle.plane.specs.Floor.{on}
 use Rattle.plane.specs.Question.{Question, ask_mirror}
-use Rattle.plane.specs.theory.lists.Flat.{points-length}
-use Rattle.plane.specs.theory.mirror.Mirror.{mirror-count}
-use Rattle.plane.specs.theory.mirror.MirrorSize.{mirror-little, mirror-enough}
+use Rattle.plane.proofs.theory.lists.Flat.{points-length}
+use Rattle.plane.proofs.theory.mirror.Mirror.{mirror-count}
+use Rattle.plane.proofs.theory.mirror.MirrorSize.{mirror-little, mirror-enough}
 use Rattle.admission.specs.theory.Judged.{refuses}
 use Rattle.admission.specs.theory.Door.{shapes-refused, rest-refused, all-written}
 use Rattle.shape_questions.proofs.mirror.Goals as goal

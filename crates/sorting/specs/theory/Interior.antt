@@ -17,10 +17,10 @@ use Rattle.integer.specs.Order.{weaken, le_trans, le_antisym, lt-or-le, le-lt_z,
 use Rattle.plane.specs.Point.{Point, points, corner, ◌∈◌}
 use Rattle.plane.specs.Direction.{value, support}
 use Rattle.plane.specs.Corner.{shape_of}
-use Rattle.plane.specs.theory.lists.Flat.{points-length}
-use Rattle.plane.specs.theory.lists.Members.{member-some, member-cons}
-use Rattle.plane.specs.theory.support.Support.{value-le-support, support-le, support-subset}
-use Rattle.plane.specs.theory.hull.ShapeOf.{shape_of-shape, shape_of-support, shape-known}
+use Rattle.plane.proofs.theory.lists.Flat.{points-length}
+use Rattle.plane.proofs.theory.lists.Members.{member-some, member-cons}
+use Rattle.plane.proofs.theory.support.Support.{value-le-support, support-le, support-subset}
+use Rattle.plane.proofs.theory.hull.ShapeOf.{shape_of-shape, shape_of-support, shape-known}
 use Rattle.polygon.specs.Point.{stored}
 use Rattle.sorting.specs.declared.interior.Rectangle.{Rectangle}
 use Rattle.sorting.specs.Order.{run}

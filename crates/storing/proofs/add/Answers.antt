@@ -2,8 +2,8 @@
 use native.Mathlib.Omega.{arith}
 use borrow.Author.Rules.{rules}
 use Rattle.journal.specs.Format.{recorded}
-use Rattle.journal.specs.theory.Read.{recorded-length}
-use Rattle.journal.specs.theory.Storing.{ran-stores}
+use Rattle.journal.proofs.theory.Read.{recorded-length}
+use Rattle.journal.proofs.theory.Storing.{ran-stores}
 use Rattle.storing.proofs.add.Goals as goal
 
 pub returns : goal.returns

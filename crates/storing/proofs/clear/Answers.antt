@@ -5,7 +5,7 @@ use Prim.Native.Nat.{ℕ, suc, ◌-◌, ◌≤◌}
 use native.Mathlib.Omega.{arith}
 use borrow.Author.Rules.{rules}
 use lib.ListN.{length}
-use Rattle.journal.specs.theory.Storing.{ran-blank, ran-length, Cleared, cleared-start, cleared-next}
+use Rattle.journal.proofs.theory.Storing.{ran-blank, ran-length, Cleared, cleared-start, cleared-next}
 use Rattle.storing.proofs.clear.Goals as goal
 use Rattle.storing.proofs.clear.Goals.{At-loop-p}
 

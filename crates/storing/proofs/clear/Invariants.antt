@@ -3,7 +3,7 @@ use Prim.Native.Nat.{ℕ, suc, ◌-◌, ◌≤◌}
 use native.Mathlib.Omega.{arith}
 use borrow.Author.Rules.{rules}
 use lib.ListN.{length}
-use Rattle.journal.specs.theory.Storing.{ran-blank, ran-length, Cleared, cleared-start, cleared-next}
+use Rattle.journal.proofs.theory.Storing.{ran-blank, ran-length, Cleared, cleared-start, cleared-next}
 use Rattle.storing.proofs.clear.Given as goal
 
 abbrev pub invariant-loop-p : goal.invariant-loop-p

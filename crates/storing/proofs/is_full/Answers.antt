@@ -6,7 +6,7 @@ use borrow.Author.Rules.{rules}
 use lib.Dec.{ltb}
 use lib.ListN.{length}
 use Rattle.journal.specs.Format.{recorded}
-use Rattle.journal.specs.theory.Read.{recorded-length}
+use Rattle.journal.proofs.theory.Read.{recorded-length}
 use Rattle.storing.proofs.is_full.Goals as goal
 
 pub returns : goal.returns

@@ -1,6 +1,6 @@
 -- `pair` meets its contract: two bytes, the lower first.
 use borrow.Author.Rules.{rules}
-use Rattle.journal.specs.theory.Storing.{ran-pair}
+use Rattle.journal.proofs.theory.Storing.{ran-pair}
 use Rattle.storing.proofs.pair.Goals as goal
 
 pub returns : goal.returns

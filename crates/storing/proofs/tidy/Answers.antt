@@ -1,6 +1,6 @@
 -- `tidy` meets its contract: a byte that is 0 is left alone.
 use borrow.Author.Rules.{rules}
-use Rattle.journal.specs.theory.Storing.{ran-kept, ran-cleared}
+use Rattle.journal.proofs.theory.Storing.{ran-kept, ran-cleared}
 use Rattle.storing.proofs.tidy.Goals as goal
 
 pub returns-then-log-p-eq0 : goal.returns-then-log-p-eq0

@@ -4,7 +4,7 @@ use borrow.Author.Rules.{rules}
 use mir.Syntax.{w32}
 use mir.Val.{of_z}
 use mir.Facts.{to_z-of_z}
-use Rattle.journal.specs.theory.Storing.{ran-word}
+use Rattle.journal.proofs.theory.Storing.{ran-word}
 use Rattle.storing.proofs.word.Goals as goal
 
 pub returns : goal.returns

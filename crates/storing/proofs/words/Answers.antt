@@ -12,7 +12,7 @@ use mir.Facts.{to_z-of_z}
 use Rattle.endian.specs.Bytes.{words}
 use Rattle.journal.specs.Adding.{writes}
 use Rattle.journal.specs.Allowance.{Ran}
-use Rattle.journal.specs.theory.Storing.{ran-length, ran-start, ran-more}
+use Rattle.journal.proofs.theory.Storing.{ran-length, ran-start, ran-more}
 use Rattle.storing.proofs.words.Goals as goal
 use Rattle.storing.proofs.words.Goals.{At-loop-i}
 

@@ -10,7 +10,7 @@ use mir.Facts.{to_z-of_z}
 use Rattle.endian.specs.Bytes.{words}
 use Rattle.journal.specs.Adding.{writes}
 use Rattle.journal.specs.Allowance.{Ran}
-use Rattle.journal.specs.theory.Storing.{ran-length, ran-start, ran-more}
+use Rattle.journal.proofs.theory.Storing.{ran-length, ran-start, ran-more}
 use Rattle.storing.proofs.words.Given as goal
 
 abbrev pub invariant-loop-i : goal.invariant-loop-i

@@ -4,8 +4,8 @@ use Prim.Native.Nat.{◌+◌, ◌*◌, ◌≤◌}
 use native.Mathlib.Omega.{arith}
 use borrow.Author.Rules.{rules}
 use lib.ListN.{length}
-use Rattle.journal.specs.theory.Read.{recorded-length}
-use Rattle.journal.specs.theory.Storing.{ran-length, ran-pair, ran-recorded}
+use Rattle.journal.proofs.theory.Read.{recorded-length}
+use Rattle.journal.proofs.theory.Storing.{ran-length, ran-pair, ran-recorded}
 use Rattle.storing.proofs.write.Goals as goal
 use Rattle.storing.proofs.write.Goals.{After-byte-left-2, After-pair-left-2, Start}
 

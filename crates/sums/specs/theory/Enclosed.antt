@@ -12,8 +12,8 @@ use Rattle.plane.specs.Point.{Point, corner}
 use Rattle.plane.specs.Turn.{turn}
 use Rattle.plane.specs.Shape.{next, IsShape}
 use Rattle.plane.specs.Direction.{value}
-use Rattle.plane.specs.theory.lists.Next.{one-or-next}
-use Rattle.plane.specs.theory.sum.Positions.{edge-turn, next-left}
+use Rattle.plane.proofs.theory.lists.Next.{one-or-next}
+use Rattle.plane.proofs.theory.sum.Positions.{edge-turn, next-left}
 
 -- ---- three vectors at a corner: u comes to it, v leaves it, w leads to any other; x is how far each goes on, y how far it goes aside
 

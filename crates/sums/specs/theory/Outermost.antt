@@ -14,11 +14,11 @@ use Rattle.plane.specs.Point.{Point, point, corner, opposite}
 use Rattle.plane.specs.Shape.{next, precedes, IsShape}
 use Rattle.plane.specs.Direction.{value, support}
 use Rattle.plane.specs.Corner.{mirrored}
-use Rattle.plane.specs.theory.forms.Precedes.{level, lower-precedes, precedes-below}
-use Rattle.plane.specs.theory.lists.Members.{position-member, member-position}
-use Rattle.plane.specs.theory.lists.Next.{next-end, next-on, next-below}
-use Rattle.plane.specs.theory.sum.Positions.{round-inner, round-within}
-use Rattle.plane.specs.theory.support.Support.{support-unique, support-mirrored}
+use Rattle.plane.proofs.theory.forms.Precedes.{level, lower-precedes, precedes-below}
+use Rattle.plane.proofs.theory.lists.Members.{position-member, member-position}
+use Rattle.plane.proofs.theory.lists.Next.{next-end, next-on, next-below}
+use Rattle.plane.proofs.theory.sum.Positions.{round-inner, round-within}
+use Rattle.plane.proofs.theory.support.Support.{support-unique, support-mirrored}
 use Rattle.polygon.specs.declared.extent.Extent.{Extent}
 use Rattle.polygon.specs.Point.{at}
 use Rattle.polygon.specs.Extent.{highest as extent_highest, Extends}

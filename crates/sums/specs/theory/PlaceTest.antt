@@ -16,9 +16,9 @@ use Rattle.std.proofs.Math.ListN.{length}
 use Rattle.plane.specs.Point.{Point, points, corner}
 use Rattle.plane.specs.Refusal.{Valid}
 use Rattle.plane.specs.Forms.{before, Before, InOrder, edges}
-use Rattle.plane.specs.theory.lists.Sought.{true-not-false, tests_agree}
-use Rattle.plane.specs.theory.forms.Angle.{before-trans}
-use Rattle.plane.specs.theory.sum.Positions.{in-order-at, shape-in-order}
+use Rattle.plane.proofs.theory.lists.Sought.{true-not-false, tests_agree}
+use Rattle.plane.proofs.theory.forms.Angle.{before-trans}
+use Rattle.plane.proofs.theory.sum.Positions.{in-order-at, shape-in-order}
 use Rattle.calipers.specs.Places.{Standing, passed as standing_passed}
 use Rattle.calipers.specs.Walk.{Walk, passed, finished, advanced}
 use Rattle.sums.specs.Advance.{state}

@@ -14,7 +14,7 @@ use Prim.Native.Nat.{ℕ, zero, suc, ◌≤◌, ◌<◌}
 use Rattle.plane.specs.Point.{points}
 use Rattle.plane.specs.Refusal.{Valid}
 use Rattle.plane.specs.Forms.{edges}
-use Rattle.plane.specs.theory.lists.Sought.{some-here, some-witness, first-unique}
+use Rattle.plane.proofs.theory.lists.Sought.{some-here, some-witness, first-unique}
 use Rattle.calipers.specs.Walk.{Walk, begun, remaining, finished, advanced, At}
 use Rattle.sums.specs.PlaceAfter.{whole_sum, place_after, same_walk, is_place, corners_before}
 use Rattle.calipers.specs.theory.Places.{finished-all}

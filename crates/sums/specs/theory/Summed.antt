@@ -12,11 +12,11 @@ use Rattle.plane.specs.Refusal.{Valid}
 use Rattle.plane.specs.Corner.{shape_of, sums}
 use Rattle.plane.specs.Forms.{edges}
 use Rattle.plane.specs.VectorSum.{path, join_edges}
-use Rattle.plane.specs.theory.lists.Members.{sums-some}
-use Rattle.plane.specs.theory.hull.ShapeOf.{shape_of-shape}
-use Rattle.plane.specs.theory.sum.Path.{along-length}
-use Rattle.plane.specs.theory.sum.EdgeSum.{join_edges-length}
-use Rattle.plane.specs.theory.sum.Positions.{edges-at-most}
+use Rattle.plane.proofs.theory.lists.Members.{sums-some}
+use Rattle.plane.proofs.theory.hull.ShapeOf.{shape_of-shape}
+use Rattle.plane.proofs.theory.sum.Path.{along-length}
+use Rattle.plane.proofs.theory.sum.EdgeSum.{join_edges-length}
+use Rattle.plane.proofs.theory.sum.Positions.{edges-at-most}
 use Rattle.sums.specs.Advance.{next_corners}
 use Rattle.sums.specs.Size.{Reckoned, exact, many}
 use Rattle.calipers.specs.Walk.{Walk, here, begun, remaining, At}

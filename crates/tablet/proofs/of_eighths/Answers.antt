@@ -2,7 +2,7 @@
 use Rattle.std.proofs.Common.{sym, ◌∙◌, rules}
 use lib.Ieee.{binary64, of_bits}
 use lib.Ieee.Fits.{mul-fits}
-use Rattle.tablet.specs.theory.Reads.{small-not-whole, scaled-same}
+use Rattle.tablet.proofs.theory.Reads.{small-not-whole, scaled-same}
 use Rattle.tablet.proofs.of_eighths.Goals as goal
 
 pub returns-then-is_small : goal.returns-then-is_small

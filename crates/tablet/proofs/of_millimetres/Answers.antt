@@ -5,7 +5,7 @@ use Rattle.integer.specs.Machine.{result-is}
 use Rattle.plane.specs.Refusal.{outside}
 use Rattle.tablet.specs.Double.{finite}
 use Rattle.tablet.specs.Test.{whole, short, truncated}
-use Rattle.tablet.specs.theory.Reads.{read-not-finite, read-not-whole, read-far, read-near, short-far}
+use Rattle.tablet.proofs.theory.Reads.{read-not-finite, read-not-whole, read-far, read-near, short-far}
 use Rattle.tablet.specs.declared.reading.Read.TheVariants.{Whole}
 use Rattle.tablet.proofs.of_millimetres.Goals as goal
 use Rattle.tablet.proofs.of_millimetres.Goals.{After-outside, Else-not-is_finite, Else-not-is_short, Else-not-is_whole}

@@ -7,11 +7,11 @@ use Rattle.std.proofs.Math.Path.{sym}
 use Rattle.std.proofs.Common.{ap, ◌∙◌}
 use mathlib.Core.List.{List, [], ◌∷◌}
 use Rattle.plane.specs.Reply.{Reply, answered, refused}
-use Rattle.plane.specs.theory.refusals.Rows.{first_row-given}
+use Rattle.plane.proofs.theory.refusals.Rows.{first_row-given}
 use Rattle.tablet.specs.Double.{holding}
 use Rattle.tablet.specs.Reading.{read_as, reading_rows, tablet_reply, sent_back, Sent, tablet_sent}
-use Rattle.tablet.specs.theory.Rows.{whole-passed}
-use Rattle.tablet.specs.theory.Corner.{read-corner}
+use Rattle.tablet.proofs.theory.Rows.{whole-passed}
+use Rattle.tablet.proofs.theory.Corner.{read-corner}
 use Rattle.tablet.specs.declared.reading.Reading.{Reading}
 use Rattle.tablet.specs.declared.reading.Read.TheVariants.{Whole}
 use Rattle.admission.specs.Admission.{Refuses}

@@ -12,8 +12,8 @@ use Rattle.plane.specs.Point.{Point, ◌⊖◌}
 use Rattle.plane.specs.Turn.{turn}
 use Rattle.plane.specs.Direction.{value}
 use Rattle.plane.specs.Tangent.{sign_of, on_side}
-use Rattle.plane.specs.theory.lists.Members.{point-path}
-use Rattle.plane.specs.theory.forms.Vector.{turn-back}
+use Rattle.plane.proofs.theory.lists.Members.{point-path}
+use Rattle.plane.proofs.theory.forms.Vector.{turn-back}
 use Rattle.tangents.specs.Draws.{draws}
 use Rattle.tangents.specs.theory.Sides.{sign_zero}
 use Rattle.tangents.specs.theory.DrawsTest.{Rises, rise-gap, Stays, Drawn, across, ahead, draws→drawn, drawn→draws}

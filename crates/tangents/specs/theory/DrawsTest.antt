@@ -20,7 +20,7 @@ use Rattle.plane.specs.Point.{Point, opposite, ◌⊖◌}
 use Rattle.plane.specs.Turn.{turn, cross}
 use Rattle.plane.specs.Direction.{value}
 use Rattle.plane.specs.Tangent.{sign_of, on_side}
-use Rattle.plane.specs.theory.forms.Vector.{⊖-zero, square-positive, turned_lt}
+use Rattle.plane.proofs.theory.forms.Vector.{⊖-zero, square-positive, turned_lt}
 use Rattle.tangents.specs.Draws.{draws}
 use Rattle.tangents.specs.theory.Sides.{sign-not, sign_zero, side_left, side_right}
 

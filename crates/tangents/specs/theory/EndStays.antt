@@ -11,7 +11,7 @@ use Rattle.plane.specs.Point.{Point, origin, opposite, ◌⊖◌}
 use Rattle.plane.specs.Turn.{turn, turn-swap}
 use Rattle.plane.specs.Direction.{value}
 use Rattle.plane.specs.Tangent.{sign_of}
-use Rattle.plane.specs.theory.forms.Vector.{value-turned}
+use Rattle.plane.proofs.theory.forms.Vector.{value-turned}
 use Rattle.tangents.specs.theory.Sides.{same-side}
 use Rattle.tangents.specs.theory.DrawsTest.{Rises, value-back, Stays, Drawn, across, ahead}
 use Rattle.tangents.specs.theory.OneLine.{level-turns}

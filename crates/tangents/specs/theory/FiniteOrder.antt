@@ -7,7 +7,7 @@ use Rattle.std.specs.Prelude.{◌≡◌, refl, Bool, true, false, cond, ℕ, zer
 use Rattle.std.proofs.Math.Decide.{ℕ_discrete}
 use Rattle.std.proofs.Common.{arith}
 use Rattle.plane.specs.Search.{some}
-use Rattle.plane.specs.theory.lists.Sought.{true-not-false, some-witness, some-none}
+use Rattle.plane.proofs.theory.lists.Sought.{true-not-false, some-witness, some-none}
 
 abbrev pub counted : (ℕ → Bool) → ℕ → ℕ
 counted p zero = 0

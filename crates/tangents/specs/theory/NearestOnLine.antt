@@ -9,8 +9,8 @@ use Rattle.plane.specs.Point.{Point, opposite, ◌⊖◌}
 use Rattle.plane.specs.Turn.{turn, turn-swap}
 use Rattle.plane.specs.Direction.{value}
 use Rattle.plane.specs.Measure.{squared}
-use Rattle.plane.specs.theory.forms.Vector.{value-turned}
-use Rattle.plane.specs.theory.forms.Squared.{squared-value}
+use Rattle.plane.proofs.theory.forms.Vector.{value-turned}
+use Rattle.plane.proofs.theory.forms.Squared.{squared-value}
 use Rattle.tangents.specs.theory.DrawsTest.{Rises, rise-gap, rise-positive, rise-back}
 use Rattle.tangents.specs.theory.DrawsOrder.{across-line, on-line-same}
 

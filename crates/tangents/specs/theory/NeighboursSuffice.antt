@@ -13,9 +13,9 @@ use Rattle.plane.specs.Turn.{turn, Left}
 use Rattle.plane.specs.Shape.{next, IsShape}
 use Rattle.plane.specs.Direction.{value}
 use Rattle.plane.specs.Tangent.{sign_of}
-use Rattle.plane.specs.theory.lists.Sought.{true-not-false}
-use Rattle.plane.specs.theory.lists.Next.{next-below, one-or-next}
-use Rattle.plane.specs.theory.sum.Positions.{edge-turn, next-left}
+use Rattle.plane.proofs.theory.lists.Sought.{true-not-false}
+use Rattle.plane.proofs.theory.lists.Next.{next-below, one-or-next}
+use Rattle.plane.proofs.theory.sum.Positions.{edge-turn, next-left}
 use Rattle.separation.specs.theory.Sector.{sector}
 use Rattle.tangents.specs.Draws.{draws, Facing, Rests, Better}
 use Rattle.tangents.specs.theory.Sides.{sign_zero}

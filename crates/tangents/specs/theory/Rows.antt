@@ -12,7 +12,7 @@ use Rattle.plane.specs.Separation.{apart}
 use Rattle.plane.specs.Tangent.{tangent_from, tangent_to}
 use Rattle.plane.specs.Floor.{Floored, corners, Same}
 use Rattle.plane.specs.Question.{values, reply, ask_tangents}
-use Rattle.plane.specs.theory.refusals.Asked.{asked-given, asked-none, asked-values, asked-rest, rest-given, rest-none}
+use Rattle.plane.proofs.theory.refusals.Asked.{asked-given, asked-none, asked-values, asked-rest, rest-given, rest-none}
 use Rattle.separation.specs.theory.Apart.{Separated, apart→direction}
 use Rattle.tangents.specs.Rule.{MeetsRule, FourTangents}
 use Rattle.tangents.specs.theory.SettledExists.{Settled}

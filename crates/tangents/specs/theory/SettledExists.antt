@@ -13,9 +13,9 @@ use Rattle.integer.specs.Linear.{linear, lia, ◌&◌}
 use Rattle.plane.specs.Point.{Point, origin, opposite, corner, ◌⊖◌}
 use Rattle.plane.specs.Search.{some, first}
 use Rattle.plane.specs.Direction.{value}
-use Rattle.plane.specs.theory.lists.Members.{position-member}
-use Rattle.plane.specs.theory.lists.Sought.{some-none, none-some, first-at-most, first-true, true-not-false}
-use Rattle.plane.specs.theory.forms.Vector.{value-origin}
+use Rattle.plane.proofs.theory.lists.Members.{position-member}
+use Rattle.plane.proofs.theory.lists.Sought.{some-none, none-some, first-at-most, first-true, true-not-false}
+use Rattle.plane.proofs.theory.forms.Vector.{value-origin}
 use Rattle.separation.specs.theory.Apart.{Separated}
 use Rattle.tangents.specs.Draws.{draws, Facing, Rests}
 use Rattle.tangents.specs.theory.FiniteOrder.{last_of}

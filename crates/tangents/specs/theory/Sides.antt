@@ -13,7 +13,7 @@ use Rattle.integer.specs.Order.{◌≤×≤◌, ◌≡×◌, le_antisym, le-le_z
 use Rattle.plane.specs.Point.{Point}
 use Rattle.plane.specs.Turn.{turn, turn-swap}
 use Rattle.plane.specs.Tangent.{sign_of}
-use Rattle.plane.specs.theory.lists.Sought.{tests_agree}
+use Rattle.plane.proofs.theory.lists.Sought.{tests_agree}
 
 -- ---- signs
 

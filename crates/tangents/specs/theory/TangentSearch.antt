@@ -11,7 +11,7 @@ use Rattle.plane.specs.Point.{Point, points, corner}
 use Rattle.plane.specs.Refusal.{Valid}
 use Rattle.plane.specs.Separation.{apart}
 use Rattle.plane.specs.Tangent.{tangent_from, tangent_to}
-use Rattle.plane.specs.theory.lists.Sought.{true-not-false}
+use Rattle.plane.proofs.theory.lists.Sought.{true-not-false}
 use Rattle.polygon.specs.theory.Small.{small-corner}
 use Rattle.separation.specs.theory.Apart.{Separated, apart→direction}
 use Rattle.tangents.specs.Draws.{draws, Facing, Rests, Better, Ready}

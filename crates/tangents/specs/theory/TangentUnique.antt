@@ -22,9 +22,9 @@ use Rattle.plane.specs.Shape.{IsShape}
 use Rattle.plane.specs.Direction.{value}
 use Rattle.plane.specs.Measure.{squared}
 use Rattle.plane.specs.Tangent.{sign_of, touches, nearer, tangent, tangent_from, tangent_to}
-use Rattle.plane.specs.theory.lists.Sought.{true-not-false, some-here, some-none, none-some, first-unique}
-use Rattle.plane.specs.theory.forms.Vector.{turned-back}
-use Rattle.plane.specs.theory.sum.Positions.{corner-injective}
+use Rattle.plane.proofs.theory.lists.Sought.{true-not-false, some-here, some-none, none-some, first-unique}
+use Rattle.plane.proofs.theory.forms.Vector.{turned-back}
+use Rattle.plane.proofs.theory.sum.Positions.{corner-injective}
 use Rattle.plane.specs.Separation.{apart}
 use Rattle.separation.specs.theory.Apart.{Separated, apart→direction, apart-sym}
 use Rattle.tangents.specs.Rule.{MeetsRule}

@@ -7,7 +7,7 @@ use Rattle.integer.specs.Order.{le-le_z, le_z-true}
 use Rattle.plane.specs.Point.{Point, corner}
 use Rattle.plane.specs.Turn.{turn}
 use Rattle.plane.specs.Tangent.{sign_of, on_side, all_on_side, touches}
-use Rattle.plane.specs.theory.lists.Sought.{all-every, every-all}
+use Rattle.plane.proofs.theory.lists.Sought.{all-every, every-all}
 use Rattle.separation.specs.theory.Apart.{Separated}
 use Rattle.tangents.specs.theory.Sides.{same-side}
 use Rattle.tangents.specs.theory.OneLine.{one_line}

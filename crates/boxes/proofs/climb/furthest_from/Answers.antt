@@ -9,8 +9,8 @@ use Rattle.plane.specs.Limits.{corners-small}
 use Rattle.plane.specs.Point.{points, corner}
 use Rattle.plane.specs.Shape.{next}
 use Rattle.plane.specs.Direction.{value, furthest}
-use Rattle.plane.specs.theory.face.FirstFurthest.{furthest-greatest}
-use Rattle.plane.specs.theory.lists.Next.{next-below}
+use Rattle.plane.proofs.theory.face.FirstFurthest.{furthest-greatest}
+use Rattle.plane.proofs.theory.lists.Next.{next-below}
 use Rattle.polygon.specs.Point.{at}
 use Rattle.boxes.specs.Scan.{Climbs}
 use Rattle.boxes.specs.theory.Climb.{rises-up, rises-not, rising-not-found, climbed, still, still-less}

@@ -5,7 +5,7 @@ use lib.Signed.{lt_z}
 use mir.Syntax.{w64}
 use Rattle.integer.specs.Machine.{result-is}
 use Rattle.plane.specs.Direction.{value}
-use Rattle.plane.specs.theory.lists.Next.{next-below}
+use Rattle.plane.proofs.theory.lists.Next.{next-below}
 use Rattle.polygon.specs.Point.{at}
 use Rattle.polygon.specs.theory.Small.{small-edge, small-wide}
 use Rattle.boxes.proofs.climb.rises.Goals as goal

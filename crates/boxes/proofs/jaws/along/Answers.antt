@@ -6,10 +6,10 @@ use mir.Val.{to_z, of_z}
 use Rattle.integer.specs.Machine.{result-is}
 use Rattle.plane.specs.Point.{Point, points, ◌⊖◌}
 use Rattle.plane.specs.Direction.{value}
-use Rattle.plane.specs.theory.lists.Next.{next-below}
+use Rattle.plane.proofs.theory.lists.Next.{next-below}
 use Rattle.polygon.specs.Point.{at, Small}
 use Rattle.polygon.specs.theory.Small.{small-corner, small-edge, small-step, small-wide}
-use Rattle.strips.specs.theory.Spread.{spread-nonneg}
+use Rattle.strips.proofs.theory.Spread.{spread-nonneg}
 use Rattle.boxes.specs.Box.{along}
 use Rattle.boxes.specs.theory.Held.{held-along}
 use Rattle.boxes.proofs.Sizes.{below_half}

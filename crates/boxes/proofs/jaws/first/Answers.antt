@@ -2,7 +2,7 @@
 use Rattle.plane.specs.Cut.{quarter}
 use Rattle.plane.specs.Face.{Furthest}
 use Rattle.plane.specs.Point.{points}
-use Rattle.plane.specs.theory.sum.Positions.{edge_of}
+use Rattle.plane.proofs.theory.sum.Positions.{edge_of}
 use Rattle.boxes.specs.theory.Held.{first-climbs, turned-back}
 use Rattle.boxes.proofs.Aim.{small-along, aimed-along, aimed-quarter, aimed-back, held-along, held-quarter, held_back}
 use Rattle.boxes.proofs.jaws.first.Goals as goal

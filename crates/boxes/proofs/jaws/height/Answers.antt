@@ -10,7 +10,7 @@ use Rattle.plane.specs.Limits.{corners-small}
 use Rattle.plane.specs.Point.{points, corner}
 use Rattle.plane.specs.Turn.{turn}
 use Rattle.plane.specs.Measure.{edge_turn}
-use Rattle.plane.specs.theory.sum.Positions.{edge-turn}
+use Rattle.plane.proofs.theory.sum.Positions.{edge-turn}
 use Rattle.measure.specs.theory.Height.{furthest-height}
 use Rattle.boxes.proofs.Sizes.{below_half}
 use Rattle.boxes.proofs.jaws.height.Goals as goal

@@ -6,8 +6,8 @@ use Rattle.integer.specs.Machine.{result-is}
 use Rattle.plane.specs.Point.{Point, points}
 use Rattle.plane.specs.Direction.{value}
 use Rattle.plane.specs.Measure.{edge_squared}
-use Rattle.plane.specs.theory.forms.Vector.{value-nonneg}
-use Rattle.plane.specs.theory.lists.Next.{next-below}
+use Rattle.plane.proofs.theory.forms.Vector.{value-nonneg}
+use Rattle.plane.proofs.theory.lists.Next.{next-below}
 use Rattle.polygon.specs.theory.Small.{small-edge, small-wide}
 use Rattle.measure.specs.theory.Height.{edge_squared-value}
 use Rattle.boxes.proofs.jaws.squared.Goals as goal

@@ -2,7 +2,7 @@
 use mathlib.Core.Path.{sym, ◌∙◌}
 use native.Mathlib.Omega.{arith}
 use Rattle.plane.specs.Point.{points}
-use Rattle.plane.specs.theory.sum.Positions.{edges_few, edges_some}
+use Rattle.plane.proofs.theory.sum.Positions.{edges_few, edges_some}
 use Rattle.calipers.proofs.edges.sides.Goals as goal
 
 pub count-n-requires : goal.count-n-requires

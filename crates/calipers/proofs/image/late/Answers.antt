@@ -6,8 +6,8 @@ use lib.ListN.{length}
 use Rattle.plane.specs.Point.{points}
 use Rattle.plane.specs.Forms.{edges}
 use Rattle.plane.specs.Cycle.{corner_round}
-use Rattle.plane.specs.theory.lists.Flat.{points-length}
-use Rattle.plane.specs.theory.sum.Positions.{edges-at-most}
+use Rattle.plane.proofs.theory.lists.Flat.{points-length}
+use Rattle.plane.proofs.theory.sum.Positions.{edges-at-most}
 use Rattle.calipers.specs.Image.{image}
 use Rattle.calipers.specs.theory.Image.{image-edges, image-valid}
 use Rattle.calipers.specs.theory.Sides.{onward-end, onward-inner, corner-fits, edge-adds, along-edge}

@@ -5,7 +5,7 @@ use native.Mathlib.Omega.{arith}
 use lib.ListN.{length}
 use Rattle.plane.specs.Point.{points}
 use Rattle.plane.specs.Cycle.{corner_round}
-use Rattle.plane.specs.theory.sum.Positions.{edges-at-most}
+use Rattle.plane.proofs.theory.sum.Positions.{edges-at-most}
 use Rattle.calipers.specs.Image.{image}
 use Rattle.calipers.specs.theory.Image.{image-count, image-edges, image-small}
 use Rattle.calipers.proofs.image.side_at.Goals as goal

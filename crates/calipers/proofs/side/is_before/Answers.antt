@@ -9,7 +9,7 @@ use Rattle.integer.specs.Machine.{result-is}
 use Rattle.plane.specs.Point.{Point}
 use Rattle.plane.specs.Turn.{cross}
 use Rattle.plane.specs.Forms.{up, before}
-use Rattle.plane.specs.theory.forms.Angle.{before-alike}
+use Rattle.plane.proofs.theory.forms.Angle.{before-alike}
 use Rattle.calipers.proofs.Tests.{equal, different}
 use Rattle.calipers.proofs.side.is_before.Goals as goal
 

@@ -5,10 +5,10 @@ use borrow.Author.Rules.{rules}
 use native.Mathlib.Omega.{arith}
 use lib.ListN.{length}
 use Rattle.plane.specs.Point.{points}
-use Rattle.plane.specs.theory.lists.Flat.{points-length}
+use Rattle.plane.proofs.theory.lists.Flat.{points-length}
 use Rattle.plane.specs.Forms.{edges}
 use Rattle.plane.specs.Cycle.{corner_round}
-use Rattle.plane.specs.theory.sum.Positions.{edges-at-most}
+use Rattle.plane.proofs.theory.sum.Positions.{edges-at-most}
 use Rattle.calipers.specs.theory.Sides.{onward-end, onward-inner, corner-fits, edge-adds, along-edge}
 use Rattle.calipers.proofs.side.next.Goals as goal
 use Rattle.calipers.proofs.side.next.Goals.{Else-s}

@@ -5,8 +5,8 @@ use native.Mathlib.Omega.{arith}
 use lib.ListN.{length}
 use Rattle.plane.specs.Point.{points, ◌⊖◌}
 use Rattle.plane.specs.Cycle.{corner_round}
-use Rattle.plane.specs.theory.lists.Flat.{points-length}
-use Rattle.plane.specs.theory.sum.Positions.{edges-at-most}
+use Rattle.plane.proofs.theory.lists.Flat.{points-length}
+use Rattle.plane.proofs.theory.sum.Positions.{edges-at-most}
 use Rattle.polygon.specs.Point.{at}
 use Rattle.polygon.specs.theory.Small.{small-corner}
 use Rattle.calipers.specs.theory.Sides.{edge-inner, stands-fits, carried-to}

@@ -4,7 +4,7 @@ use native.Mathlib.Omega.{arith}
 use borrow.Author.Rules.{rules}
 use Rattle.plane.specs.Point.{points, corner}
 use Rattle.plane.specs.Cycle.{corner_round}
-use Rattle.plane.specs.theory.sum.Positions.{edges-at-most}
+use Rattle.plane.proofs.theory.sum.Positions.{edges-at-most}
 use Rattle.polygon.specs.theory.Small.{small-corner}
 use Rattle.calipers.proofs.side.side_at.Goals as goal
 

@@ -13,7 +13,7 @@ use Rattle.plane.specs.Refusal.{too_many}
 use Rattle.plane.specs.Output.{overwritten}
 use Rattle.plane.specs.Floor.{Floored, on, Shapes, two_shapes, rows_of}
 use Rattle.plane.specs.Question.{Question, reply}
-use Rattle.plane.specs.theory.refusals.Asked.{none→admitted}
+use Rattle.plane.proofs.theory.refusals.Asked.{none→admitted}
 use Rattle.endian.specs.Bytes.{words}
 use Rattle.wire.specs.Told.{crossed}
 use Rattle.bytewise.specs.Passing.{Room, combined, asked}

@@ -5,7 +5,7 @@ use Rattle.integer.specs.Bound.{within-neg}
 use Rattle.plane.specs.Point.{Point, points, opposite}
 use Rattle.plane.specs.Forms.{NonZero}
 use Rattle.plane.specs.Face.{face_first, face_last}
-use Rattle.plane.specs.theory.forms.Vector.{opposite-non-zero}
+use Rattle.plane.proofs.theory.forms.Vector.{opposite-non-zero}
 use Rattle.polygon.specs.Point.{at, Small}
 use Rattle.clearance.specs.theory.Lowest.{face-lowest, face-turned}
 use Rattle.clearance.proofs.face.lowest.Goals as goal

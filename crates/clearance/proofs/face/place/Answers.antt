@@ -1,6 +1,6 @@
 -- `place` meets its contract: past the last corner the first comes again.
 use native.Mathlib.Omega.{arith}
-use Rattle.plane.specs.theory.lists.Flat.{points-length}
+use Rattle.plane.proofs.theory.lists.Flat.{points-length}
 use Rattle.clearance.proofs.face.place.Goals as goal
 
 pub count-n-requires : goal.count-n-requires

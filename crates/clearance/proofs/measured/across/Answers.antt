@@ -17,7 +17,7 @@ use Rattle.plane.specs.Turn.{cross, turn-cross}
 use Rattle.plane.specs.Shape.{next}
 use Rattle.plane.specs.Measure.{squared, edge_squared, root_below}
 use Rattle.plane.specs.Clearance.{turn_on}
-use Rattle.plane.specs.theory.forms.Squared.{squared-nonneg}
+use Rattle.plane.proofs.theory.forms.Squared.{squared-nonneg}
 use Rattle.polygon.specs.Point.{at, Small}
 use Rattle.polygon.specs.theory.Small.{small-corner, small-step}
 use Rattle.measure.specs.theory.Rounded.{rounded-unique}

@@ -11,7 +11,7 @@ use Rattle.integer.specs.Machine.{result-is}
 use Rattle.integer.specs.Order.{lt-lt_z}
 use Rattle.plane.specs.Point.{points, corner}
 use Rattle.plane.specs.Measure.{squared, root_below}
-use Rattle.plane.specs.theory.forms.Squared.{squared-nonneg}
+use Rattle.plane.proofs.theory.forms.Squared.{squared-nonneg}
 use Rattle.polygon.specs.theory.Small.{small-corner}
 use Rattle.measure.specs.theory.Rounded.{rounded-unique, root-square-over}
 use Rattle.clearance.proofs.measured.between.Goals as goal

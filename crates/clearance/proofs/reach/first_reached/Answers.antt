@@ -4,7 +4,7 @@ use borrow.Author.Rules.{rules}
 use Rattle.integer.specs.Bound.{within-neg}
 use Rattle.plane.specs.Point.{Point, points, opposite}
 use Rattle.plane.specs.Forms.{NonZero}
-use Rattle.plane.specs.theory.forms.Vector.{opposite-non-zero}
+use Rattle.plane.proofs.theory.forms.Vector.{opposite-non-zero}
 use Rattle.polygon.specs.Point.{at, Small}
 use Rattle.clearance.specs.Faces.{IsFace, Ends, is_along, is_foot}
 use Rattle.clearance.specs.theory.Ends.{facing-some, Tried, tried-is, corners-first, second-first, first-first, some-reached}

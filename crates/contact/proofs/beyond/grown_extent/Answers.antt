@@ -4,7 +4,7 @@ use Rattle.plane.specs.Point.{opposite}
 use Rattle.polygon.specs.Point.{at, Small}
 use Rattle.polygon.specs.theory.Extents.{extends-small}
 use Rattle.polygon.specs.theory.Small.{small-step}
-use Rattle.contact.specs.theory.Beyond.{grown-extends, opposite-small, step-opposite}
+use Rattle.contact.proofs.theory.Beyond.{grown-extends, opposite-small, step-opposite}
 use Rattle.contact.proofs.beyond.grown_extent.Goals as goal
 use Rattle.contact.proofs.beyond.grown_extent.Goals.{After-extent_of-e, After-extent_of-f}
 

@@ -5,7 +5,7 @@ use borrow.Author.Rules.{rules}
 use Rattle.plane.specs.Point.{Point, opposite}
 use Rattle.polygon.specs.Point.{at}
 use Rattle.contact.specs.Share.{is_past}
-use Rattle.contact.specs.theory.Beyond.{opposite-small}
+use Rattle.contact.proofs.theory.Beyond.{opposite-small}
 use Rattle.contact.proofs.beyond.is_beside.Goals as goal
 
 pub returns-then-is_past : goal.returns-then-is_past

@@ -15,8 +15,8 @@ use Rattle.plane.specs.Separation.{apart}
 use Rattle.polygon.specs.Point.{at, Small}
 use Rattle.growth.specs.Grown.{grown}
 use Rattle.contact.specs.Share.{is_beside}
-use Rattle.contact.specs.theory.Sides.{small-place}
-use Rattle.contact.specs.theory.Beyond.{grown-shape, beside-apart, way-small}
+use Rattle.contact.proofs.theory.Sides.{small-place}
+use Rattle.contact.proofs.theory.Beyond.{grown-shape, beside-apart, way-small}
 use Rattle.contact.proofs.beyond.is_beyond.Goals as goal
 use Rattle.contact.proofs.beyond.is_beyond.Goals.{After-grown_extent-span, After-step-along, Else-is_beside-2, Start}
 

@@ -10,8 +10,8 @@ use Rattle.plane.specs.Direction.{value}
 use Rattle.polygon.specs.Point.{at, Small}
 use Rattle.polygon.specs.theory.Small.{small-wide}
 use Rattle.contact.specs.Share.{box_corner}
-use Rattle.contact.specs.theory.Sides.{small-place}
-use Rattle.contact.specs.theory.Beyond.{by_first, corner-small}
+use Rattle.contact.proofs.theory.Sides.{small-place}
+use Rattle.contact.proofs.theory.Beyond.{by_first, corner-small}
 use Rattle.contact.proofs.beyond.is_past.Goals as goal
 use Rattle.contact.proofs.beyond.is_past.Goals.{After-dot, After-dot-far}
 

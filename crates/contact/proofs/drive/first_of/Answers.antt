@@ -11,13 +11,13 @@ use Rattle.integer.specs.Machine.{result-is}
 use Rattle.plane.specs.Point.{points}
 use Rattle.plane.specs.Measure.{squared}
 use Rattle.plane.specs.Separation.{apart}
-use Rattle.plane.specs.theory.forms.Squared.{squared-nonneg}
+use Rattle.plane.proofs.theory.forms.Squared.{squared-nonneg}
 use Rattle.polygon.specs.Point.{at}
 use Rattle.motion.specs.Contact.{OnWay, lowest, contact}
 use Rattle.contact.specs.Share.{fraction, exceed}
-use Rattle.motion.specs.theory.Meeting.{first-on-way}
-use Rattle.contact.specs.theory.Sides.{small-place}
-use Rattle.contact.specs.theory.Told.{whole_words, length-bounded, never-told, at_told}
+use Rattle.motion.proofs.theory.Meeting.{first-on-way}
+use Rattle.contact.proofs.theory.Sides.{small-place}
+use Rattle.contact.proofs.theory.Told.{whole_words, length-bounded, never-told, at_told}
 use Rattle.contact.proofs.drive.first_of.Goals as goal
 use Rattle.contact.proofs.drive.first_of.Goals.{After-exceed, After-lowest-c, After-magnitude-length}
 

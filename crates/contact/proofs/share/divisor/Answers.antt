@@ -4,7 +4,7 @@ use native.Mathlib.Nat.{mod-lt}
 use native.Mathlib.Omega.{arith}
 use Rattle.divisor.specs.Divisor.{gcd}
 use Rattle.divisor.specs.Euclid.{gcd-zero}
-use Rattle.contact.specs.theory.Found.{gcd-step}
+use Rattle.contact.proofs.theory.Found.{gcd-step}
 use Rattle.contact.proofs.share.divisor.Goals as goal
 
 pub loop-y-init : goal.loop-y-init

@@ -3,7 +3,7 @@ use native.Mathlib.Nat.{mod-lt}
 use native.Mathlib.Omega.{arith}
 use Rattle.divisor.specs.Divisor.{gcd}
 use Rattle.divisor.specs.Euclid.{gcd-zero}
-use Rattle.contact.specs.theory.Found.{gcd-step}
+use Rattle.contact.proofs.theory.Found.{gcd-step}
 use Rattle.contact.proofs.share.divisor.Given as goal
 
 abbrev pub invariant-loop-y : goal.invariant-loop-y

@@ -11,7 +11,7 @@ use Rattle.integer.specs.Linear.{linear, lia}
 use Rattle.integer.specs.Order.{weaken, le_z-true, le_z-false}
 use Rattle.integer.specs.Machine.{machine, bounded, machine-fits, machine-is}
 use Rattle.plane.specs.Distance.{over}
-use Rattle.contact.specs.theory.Words.{entering-begun, entering-inside, entering-never}
+use Rattle.contact.proofs.theory.Words.{entering-begun, entering-inside, entering-never}
 use Rattle.contact.proofs.share.entering.Goals as goal
 use Rattle.contact.proofs.share.entering.Goals.{After-magnitude, Then-b-le0}
 

@@ -1,7 +1,7 @@
 -- `exceed` meets its contract: what a part leaves of the way, and two products.
 use mathlib.Core.Path.{◌∙◌}
 use borrow.Author.Rules.{rules}
-use Rattle.contact.specs.theory.Words.{exceed-words}
+use Rattle.contact.proofs.theory.Words.{exceed-words}
 use Rattle.contact.proofs.share.exceed.Goals as goal
 
 pub returns : goal.returns

@@ -7,7 +7,7 @@ use native.Mathlib.Omega.{arith}
 use lib.IntN.{pos}
 use Rattle.plane.specs.Distance.{over}
 use Rattle.divisor.specs.Euclid.{gcd-positive}
-use Rattle.contact.specs.theory.Found.{lowest-words}
+use Rattle.contact.proofs.theory.Found.{lowest-words}
 use Rattle.contact.proofs.share.lowest.Goals as goal
 use Rattle.contact.proofs.share.lowest.Goals.{After-divisor-g}
 

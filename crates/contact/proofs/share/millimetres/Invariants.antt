@@ -5,7 +5,7 @@ use native.Mathlib.Omega.{arith}
 use borrow.Author.Rules.{rules}
 use mir.Syntax.{w64}
 use mir.Val.{Fits}
-use Rattle.contact.specs.theory.Found.{Spanned, spanned-start, spanned-down, spanned-up, spanned-end}
+use Rattle.contact.proofs.theory.Found.{Spanned, spanned-start, spanned-down, spanned-up, spanned-end}
 use Rattle.contact.proofs.share.millimetres.Given as goal
 
 abbrev pub invariant-loop-low : goal.invariant-loop-low

@@ -4,7 +4,7 @@ use mathlib.Core.Path.{sym, ◌∙◌, ap}
 use mir.Facts.{to_z-of_z}
 use lib.IntN.{pos}
 use lib.Signed.{lt_z}
-use Rattle.contact.specs.theory.Beyond.{by_first}
+use Rattle.contact.proofs.theory.Beyond.{by_first}
 use Rattle.contact.proofs.walls.are_past.Goals as goal
 
 pub returns-then-a-gt0 : goal.returns-then-a-gt0

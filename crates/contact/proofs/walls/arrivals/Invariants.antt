@@ -14,7 +14,7 @@ use Rattle.polygon.specs.Point.{at}
 use Rattle.motion.specs.Contact.{edge_normal, past, entering, later}
 use Rattle.contact.specs.declared.walls.BothWays.{BothWays}
 use Rattle.contact.specs.Share.{Places, Arrived}
-use Rattle.contact.specs.theory.Arrivals.{wall-more, all-met, out-met}
+use Rattle.contact.proofs.theory.Arrivals.{wall-more, all-met, out-met}
 use Rattle.contact.proofs.walls.arrivals.Given as goal
 
 abbrev pub invariant-loop-i : goal.invariant-loop-i

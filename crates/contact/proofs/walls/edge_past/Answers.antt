@@ -11,12 +11,12 @@ use Rattle.integer.specs.Machine.{result-is}
 use Rattle.plane.specs.Point.{Point, points, corner}
 use Rattle.plane.specs.Turn.{turn}
 use Rattle.plane.specs.Shape.{next}
-use Rattle.plane.specs.theory.lists.Flat.{points_near}
-use Rattle.plane.specs.theory.lists.Next.{next-below}
-use Rattle.plane.specs.theory.support.Bounds.{turn-size}
+use Rattle.plane.proofs.theory.lists.Flat.{points_near}
+use Rattle.plane.proofs.theory.lists.Next.{next-below}
+use Rattle.plane.proofs.theory.support.Bounds.{turn-size}
 use Rattle.polygon.specs.Point.{at}
 use Rattle.polygon.specs.theory.Small.{small-corner}
-use Rattle.contact.specs.theory.Sides.{near-place, small-place, past-edge}
+use Rattle.contact.proofs.theory.Sides.{near-place, small-place, past-edge}
 use Rattle.contact.proofs.walls.edge_past.Goals as goal
 use Rattle.contact.proofs.walls.edge_past.Goals.{After-corner_at-b, After-past}
 

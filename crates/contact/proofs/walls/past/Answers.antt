@@ -5,7 +5,7 @@ use mir.Syntax.{w64}
 use Rattle.integer.specs.Machine.{result-is}
 use Rattle.plane.specs.Turn.{cross}
 use Rattle.polygon.specs.theory.Small.{small-step}
-use Rattle.contact.specs.theory.Sides.{past-cross}
+use Rattle.contact.proofs.theory.Sides.{past-cross}
 use Rattle.contact.proofs.walls.past.Goals as goal
 
 pub cross-requires : goal.cross-requires

@@ -9,7 +9,7 @@ use Rattle.plane.specs.Point.{points}
 use Rattle.polygon.specs.Point.{at}
 use Rattle.polygon.specs.theory.Small.{small-wide}
 use Rattle.motion.specs.Contact.{past, entering}
-use Rattle.contact.specs.theory.Sides.{small-place, small-side, side-value, side-support, side-past}
+use Rattle.contact.proofs.theory.Sides.{small-place, small-side, side-value, side-support, side-past}
 use Rattle.contact.proofs.walls.side_entry.Goals as goal
 use Rattle.contact.proofs.walls.side_entry.Goals.{After-dot, After-dot-2}
 

@@ -4,7 +4,7 @@ use native.Mathlib.Omega.{arith}
 use borrow.Author.Rules.{rules}
 use Rattle.plane.specs.Point.{points}
 use Rattle.polygon.specs.Point.{at}
-use Rattle.contact.specs.theory.Arrivals.{wall-none, wall-box}
+use Rattle.contact.proofs.theory.Arrivals.{wall-none, wall-box}
 use Rattle.contact.proofs.walls.start.Goals as goal
 
 pub returns-then-count-ge3 : goal.returns-then-count-ge3

@@ -4,7 +4,7 @@ use Prim.Native.Nat.{ℕ, ◌+◌, ◌-◌, ◌≤◌}
 use native.Mathlib.Omega.{arith}
 use lib.ListN.{length, drop}
 use Rattle.journal.specs.Format.{size, whole}
-use Rattle.journal.specs.theory.Survey.{size-at, next-inside}
+use Rattle.journal.proofs.theory.Survey.{size-at, next-inside}
 use Rattle.drives.specs.theory.Walked.{Bare, bare-start, bare-sound, bare-next, bare-found, bare-end}
 use Rattle.drives.proofs.floor.is_empty.Given as goal
 

@@ -6,7 +6,7 @@ use Rattle.plane.specs.Point.{points}
 use Rattle.polygon.specs.Point.{at}
 use Rattle.clearance.specs.declared.Spacing.{Spacing}
 use Rattle.clearance.specs.Answer.{Spaced}
-use Rattle.excess.specs.theory.Found.{corner-valid, found-far, none-far}
+use Rattle.excess.proofs.theory.Found.{corner-valid, found-far, none-far}
 use Rattle.excess.proofs.outermost.distance_of.Goals as goal
 use Rattle.excess.proofs.outermost.distance_of.Goals.{After-spacing}
 

@@ -2,7 +2,7 @@
 use mathlib.Core.Path.{sym, ◌∙◌}
 use native.Mathlib.Omega.{arith}
 use borrow.Author.Rules.{rules}
-use Rattle.excess.specs.theory.Rounded.{above-next, above-exact, above-le}
+use Rattle.excess.proofs.theory.Rounded.{above-next, above-exact, above-le}
 use Rattle.excess.proofs.rounding.above.Goals as goal
 
 pub overflow_add-result : goal.overflow_add-result

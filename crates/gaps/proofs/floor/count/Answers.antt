@@ -5,9 +5,9 @@ use Prim.Native.Nat.{ℕ, ◌+◌, ◌-◌, ◌≤◌}
 use native.Mathlib.Omega.{arith}
 use lib.ListN.{length, drop}
 use Rattle.journal.specs.Format.{size, whole}
-use Rattle.journal.specs.theory.Survey.{size-at, next-inside}
+use Rattle.journal.proofs.theory.Survey.{size-at, next-inside}
 use Rattle.gaps.specs.Search.{is_on}
-use Rattle.gaps.specs.theory.Steps.{Counting, counting-start, counting-next, counting-end}
+use Rattle.gaps.proofs.theory.Steps.{Counting, counting-start, counting-next, counting-end}
 use Rattle.gaps.proofs.floor.count.Goals as goal
 use Rattle.gaps.proofs.floor.count.Goals.{After-pair_at, In-loop-n}
 

@@ -16,9 +16,9 @@ use Rattle.polygon.specs.Front.{Front}
 use Rattle.polygon.specs.theory.Fronts.{overwritten-front}
 use Rattle.growth.specs.Grown.{grown}
 use Rattle.journal.specs.Survey.{record_at}
-use Rattle.journal.specs.theory.Stepping.{here-valid}
+use Rattle.journal.proofs.theory.Stepping.{here-valid}
 use Rattle.gaps.specs.Gap.{grown_of}
-use Rattle.gaps.specs.theory.Read.{valid-fits, written-length, grown_of-few}
+use Rattle.gaps.proofs.theory.Read.{valid-fits, written-length, grown_of-few}
 use Rattle.gaps.proofs.growing.grow_at.Goals as goal
 use Rattle.gaps.proofs.growing.grow_at.Goals.{After-read_at-n, After-top, After-write, After-write-arg-1}
 

@@ -1,7 +1,7 @@
 -- `read_at` meets its contract: the numbers of the record are decoded.
 use native.Mathlib.Omega.{arith}
 use borrow.Author.Rules.{rules}
-use Rattle.gaps.specs.theory.Read.{stated-few, read-list, read_length, read_count}
+use Rattle.gaps.proofs.theory.Read.{stated-few, read-list, read_length, read_count}
 use Rattle.gaps.proofs.growing.read_at.Goals as goal
 
 pub decode-requires : goal.decode-requires

@@ -8,12 +8,12 @@ use Rattle.plane.specs.Point.{points}
 use Rattle.plane.specs.Refusal.{Valid}
 use Rattle.polygon.specs.theory.Fronts.{front-points, front_length}
 use Rattle.journal.specs.Survey.{next_at}
-use Rattle.journal.specs.theory.Stepping.{here-valid}
+use Rattle.journal.proofs.theory.Stepping.{here-valid}
 use Rattle.gaps.specs.Gap.{Pair}
 use Rattle.gaps.specs.Search.{is_on, later_pairs, pairs_at, Passed}
-use Rattle.gaps.specs.theory.Steps.{walk-fits}
-use Rattle.gaps.specs.theory.Read.{grown_of-valid}
-use Rattle.gaps.specs.theory.Passed.{passed_none}
+use Rattle.gaps.proofs.theory.Steps.{walk-fits}
+use Rattle.gaps.proofs.theory.Read.{grown_of-valid}
+use Rattle.gaps.proofs.theory.Passed.{passed_none}
 use Rattle.gaps.proofs.search.from.Goals as goal
 use Rattle.gaps.proofs.search.from.Goals.{Else-not-is_on, Start}
 

@@ -9,10 +9,10 @@ use lib.Seq.{length-take-le}
 use Rattle.plane.specs.Refusal.{Valid}
 use Rattle.plane.specs.Distance.{distance}
 use Rattle.journal.specs.Survey.{record_at}
-use Rattle.journal.specs.theory.Stepping.{here-valid}
+use Rattle.journal.proofs.theory.Stepping.{here-valid}
 use Rattle.gaps.specs.Gap.{grown_of}
 use Rattle.gaps.specs.Search.{is_nearer, KeptSized}
-use Rattle.gaps.specs.theory.Read.{on-elsewhere, valid-fits, grown_of-shape, grown_of-spans}
+use Rattle.gaps.proofs.theory.Read.{on-elsewhere, valid-fits, grown_of-shape, grown_of-spans}
 use Rattle.gaps.proofs.search.is_passed.Goals as goal
 use Rattle.gaps.proofs.search.is_passed.Goals.{After-read_at-n, Start}
 

@@ -8,10 +8,10 @@ use Rattle.plane.specs.Limits.{max_corners}
 use Rattle.plane.specs.Point.{points}
 use Rattle.journal.specs.Format.{size, whole}
 use Rattle.journal.specs.Survey.{record_at, next_at}
-use Rattle.journal.specs.theory.Survey.{size-at, next-inside}
+use Rattle.journal.proofs.theory.Survey.{size-at, next-inside}
 use Rattle.gaps.specs.Search.{later_pairs, Walk}
-use Rattle.gaps.specs.theory.Steps.{walk-sound, walk-next, later-step, from_end}
-use Rattle.gaps.specs.theory.Passed.{Along, along-start, along-next, along-end}
+use Rattle.gaps.proofs.theory.Steps.{walk-sound, walk-next, later-step, from_end}
+use Rattle.gaps.proofs.theory.Passed.{Along, along-start, along-next, along-end}
 use Rattle.gaps.proofs.search.later.Given as goal
 
 abbrev pub invariant-loop-reach : goal.invariant-loop-reach

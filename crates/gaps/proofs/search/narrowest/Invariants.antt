@@ -7,12 +7,12 @@ use lib.ListN.{length, drop}
 use Rattle.plane.specs.Limits.{max_corners}
 use Rattle.plane.specs.Point.{points}
 use Rattle.journal.specs.Format.{size, whole}
-use Rattle.journal.specs.theory.Survey.{size-at, next-inside}
+use Rattle.journal.proofs.theory.Survey.{size-at, next-inside}
 use Rattle.gaps.specs.Gap.{Pair, pairs_of}
 use Rattle.gaps.specs.Search.{from, Walk}
 use Rattle.gaps.specs.declared.search.Best.TheVariants as Best
-use Rattle.gaps.specs.theory.Steps.{walk-sound, walk-next, pairs-step, from_end}
-use Rattle.gaps.specs.theory.Passed.{Along, along-start, along-next, along-end}
+use Rattle.gaps.proofs.theory.Steps.{walk-sound, walk-next, pairs-step, from_end}
+use Rattle.gaps.proofs.theory.Passed.{Along, along-start, along-next, along-end}
 use Rattle.gaps.proofs.search.narrowest.Given as goal
 
 -- the pairs of the floor's shapes from a place on

@@ -9,13 +9,13 @@ use Rattle.plane.specs.Point.{points}
 use Rattle.plane.specs.Refusal.{Valid}
 use Rattle.plane.specs.Clearance.{clearance_numbers}
 use Rattle.polygon.specs.theory.Fronts.{front-points, front_length}
-use Rattle.journal.specs.theory.Stepping.{here-valid}
+use Rattle.journal.proofs.theory.Stepping.{here-valid}
 use Rattle.gaps.specs.Gap.{Pair, gap_of}
 use Rattle.gaps.specs.Search.{is_on, is_nearer, pair_at, tried_at, Found, Passed, nearer}
 use Rattle.gaps.specs.declared.search.Best.{Best}
-use Rattle.gaps.specs.theory.Steps.{walk-fits}
-use Rattle.gaps.specs.theory.Read.{grown_of-valid, pair-gap, found_of, left_out}
-use Rattle.gaps.specs.theory.Passed.{passed-left, passed-tried, told-sized}
+use Rattle.gaps.proofs.theory.Steps.{walk-fits}
+use Rattle.gaps.proofs.theory.Read.{grown_of-valid, pair-gap, found_of, left_out}
+use Rattle.gaps.proofs.theory.Passed.{passed-left, passed-tried, told-sized}
 use Rattle.gaps.proofs.search.tried.Goals as goal
 use Rattle.gaps.proofs.search.tried.Goals.{After-between, After-is_on, After-is_passed, Else-not-is_on, Start}
 

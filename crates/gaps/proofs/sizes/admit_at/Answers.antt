@@ -19,10 +19,10 @@ use Rattle.delivery.specs.theory.Delivery.{judged-by}
 use Rattle.admission.specs.Admission.{Judged}
 use Rattle.growth.specs.Grown.{grown}
 use Rattle.journal.specs.Survey.{record_at}
-use Rattle.journal.specs.theory.Stepping.{here-valid}
+use Rattle.journal.proofs.theory.Stepping.{here-valid}
 use Rattle.gaps.specs.Gap.{grown_of}
 use Rattle.gaps.specs.Search.{is_on, rows_at}
-use Rattle.gaps.specs.theory.Read.{on-elsewhere, on-here, valid-fits}
+use Rattle.gaps.proofs.theory.Read.{on-elsewhere, on-here, valid-fits}
 use Rattle.gaps.proofs.sizes.admit_at.Goals as goal
 use Rattle.gaps.proofs.sizes.admit_at.Goals.{After-admit_grown, After-is_current, After-read_at-n, Start}
 

@@ -9,8 +9,8 @@ use Rattle.plane.specs.Limits.{max_corners}
 use Rattle.plane.specs.Point.{points}
 use Rattle.admission.specs.theory.Judged.{passes, turns-away}
 use Rattle.journal.specs.Format.{size, whole}
-use Rattle.journal.specs.theory.Survey.{size-at, next-inside}
-use Rattle.gaps.specs.theory.Steps.{Judging, judging-start, judging-sound, judging-next, judging-refused, judging-end}
+use Rattle.journal.proofs.theory.Survey.{size-at, next-inside}
+use Rattle.gaps.proofs.theory.Steps.{Judging, judging-start, judging-sound, judging-next, judging-refused, judging-end}
 use Rattle.gaps.proofs.sizes.pass.Goals as goal
 use Rattle.gaps.proofs.sizes.pass.Goals.{After-pair_at, In-loop-shape}
 

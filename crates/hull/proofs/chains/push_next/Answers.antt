@@ -7,7 +7,7 @@ use mir.Syntax.{w32}
 use mir.Val.{to_z, of_z}
 use Rattle.integer.specs.Machine.{result-is}
 use Rattle.plane.specs.Point.{points, corner}
-use Rattle.plane.specs.theory.lists.Flat.{points-length}
+use Rattle.plane.proofs.theory.lists.Flat.{points-length}
 use Rattle.polygon.specs.Point.{Small}
 use Rattle.sorting.specs.Order.{order, closed}
 use Rattle.hull.specs.theory.Peak.{closed-small}

@@ -8,7 +8,7 @@ use borrow.Rule.Slice.PartMut.{put_mid}
 use lib.ListN.{length, take, drop, length-drop}
 use lib.Seq.{length-take-le}
 use Rattle.plane.specs.Point.{Point, points}
-use Rattle.plane.specs.theory.lists.Flat.{points-length}
+use Rattle.plane.proofs.theory.lists.Flat.{points-length}
 use Rattle.polygon.specs.Front.{Front}
 use Rattle.hull.specs.theory.Written.{front-put, front-one}
 use Rattle.hull.specs.theory.Route.{outline-one, sides-outline}

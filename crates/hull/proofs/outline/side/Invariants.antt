@@ -3,7 +3,7 @@ use mathlib.Core.List.{◌∷◌}
 use Prim.Native.Nat.{◌+◌, ◌-◌, ◌<◌}
 use native.Mathlib.Omega.{arith}
 use Rattle.plane.specs.Point.{points}
-use Rattle.plane.specs.theory.lists.Flat.{points-length}
+use Rattle.plane.proofs.theory.lists.Flat.{points-length}
 use Rattle.polygon.specs.Point.{at}
 use Rattle.sorting.specs.Buffer.{Settled, route}
 use Rattle.hull.specs.theory.Stack.{Scanning, scanning-start, scanning-room, scanning-one}

@@ -10,12 +10,12 @@ use lib.Seq.{length-take-le}
 use Rattle.plane.specs.Limits.{max_corners}
 use Rattle.plane.specs.Point.{points}
 use Rattle.plane.specs.Refusal.{too_many}
-use Rattle.plane.specs.theory.lists.Flat.{points-length}
+use Rattle.plane.proofs.theory.lists.Flat.{points-length}
 use Rattle.endian.specs.Bytes.{words_at}
 use Rattle.endian.specs.theory.Bytes.{words_at-length}
 use Rattle.endian.specs.theory.Coded.{front-is, front_length}
 use Rattle.journal.specs.Format.{judged, is_answer}
-use Rattle.journal.specs.theory.Judging.{many-refused, passed-answers}
+use Rattle.journal.proofs.theory.Judging.{many-refused, passed-answers}
 use Rattle.journal.proofs.corners.is_shape_at.Goals as goal
 use Rattle.journal.proofs.corners.is_shape_at.Goals.{After-buffer-1, Else-exceeds_corners}
 

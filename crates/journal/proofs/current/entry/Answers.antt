@@ -1,7 +1,7 @@
 -- `entry` meets its contract: a table of all places says what was marked, and an empty one says nothing of any name.
 use mathlib.Core.Path.{refl}
 use borrow.Author.Rules.{rules}
-use Rattle.journal.specs.theory.Marks.{marked_empty}
+use Rattle.journal.proofs.theory.Marks.{marked_empty}
 use Rattle.journal.proofs.current.entry.Goals as goal
 
 pub mark-requires : goal.mark-requires

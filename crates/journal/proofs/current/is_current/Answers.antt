@@ -7,8 +7,8 @@ use lib.ListN.{drop}
 use Rattle.journal.specs.Format.{records, name}
 use Rattle.journal.specs.Reading.{held}
 use Rattle.journal.specs.Survey.{record_at, Reached}
-use Rattle.journal.specs.theory.Survey.{name-at, next-inside}
-use Rattle.journal.specs.theory.Stepping.{legible-least, name-here, sound-next}
+use Rattle.journal.proofs.theory.Survey.{name-at, next-inside}
+use Rattle.journal.proofs.theory.Stepping.{legible-least, name-here, sound-next}
 use Rattle.journal.proofs.current.is_current.Goals as goal
 use Rattle.journal.proofs.current.is_current.Goals.{After-pair_at}
 

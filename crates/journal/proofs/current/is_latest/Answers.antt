@@ -8,9 +8,9 @@ use lib.ListN.{length, get_or, drop}
 use Rattle.journal.specs.Format.{records, name}
 use Rattle.journal.specs.Reading.{held}
 use Rattle.journal.specs.Survey.{record_at, next_at}
-use Rattle.journal.specs.theory.Survey.{name-at}
-use Rattle.journal.specs.theory.Stepping.{name-here, name-inside}
-use Rattle.journal.specs.theory.Marks.{Later, marked-none, marked-held}
+use Rattle.journal.proofs.theory.Survey.{name-at}
+use Rattle.journal.proofs.theory.Stepping.{name-here, name-inside}
+use Rattle.journal.proofs.theory.Marks.{Later, marked-none, marked-held}
 use Rattle.journal.proofs.current.is_latest.Goals as goal
 use Rattle.journal.proofs.current.is_latest.Goals.{After-pair_at-name, Else-last-p, Else-table-name}
 

@@ -8,10 +8,10 @@ use lib.ListN.{length, drop}
 use Rattle.journal.specs.Format.{whole}
 use Rattle.journal.specs.Survey.{next_at}
 use Rattle.journal.specs.Marks.{Marked}
-use Rattle.journal.specs.theory.Survey.{next-inside}
-use Rattle.journal.specs.theory.Stepping.{reached-sound}
-use Rattle.journal.specs.theory.Marks.{marked_next}
-use Rattle.journal.specs.theory.Nth.{Nth, nth-start, nth-passed, nth-counted, nth-found, nth_end}
+use Rattle.journal.proofs.theory.Survey.{next-inside}
+use Rattle.journal.proofs.theory.Stepping.{reached-sound}
+use Rattle.journal.proofs.theory.Marks.{marked_next}
+use Rattle.journal.proofs.theory.Nth.{Nth, nth-start, nth-passed, nth-counted, nth-found, nth_end}
 use Rattle.journal.proofs.current.nth.Goals as goal
 use Rattle.journal.proofs.current.nth.Goals.{In-loop-k, Joined-is_latest, then-is_latest+else-left-eq0, else-is_latest}
 

@@ -7,10 +7,10 @@ use lib.ListN.{length, drop}
 use Rattle.journal.specs.Format.{whole}
 use Rattle.journal.specs.Survey.{next_at}
 use Rattle.journal.specs.Marks.{Marked}
-use Rattle.journal.specs.theory.Survey.{next-inside}
-use Rattle.journal.specs.theory.Stepping.{reached-sound}
-use Rattle.journal.specs.theory.Marks.{marked_next}
-use Rattle.journal.specs.theory.Nth.{Nth, nth-start, nth-passed, nth-counted, nth-found, nth_end}
+use Rattle.journal.proofs.theory.Survey.{next-inside}
+use Rattle.journal.proofs.theory.Stepping.{reached-sound}
+use Rattle.journal.proofs.theory.Marks.{marked_next}
+use Rattle.journal.proofs.theory.Nth.{Nth, nth-start, nth-passed, nth-counted, nth-found, nth_end}
 use Rattle.journal.proofs.current.nth.Given as goal
 
 abbrev pub invariant-loop-k : goal.invariant-loop-k

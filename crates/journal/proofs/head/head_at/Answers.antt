@@ -5,8 +5,8 @@ use native.Mathlib.Omega.{arith}
 use borrow.Author.Rules.{rules}
 use lib.ListN.{drop}
 use Rattle.journal.specs.Format.{fixed_bytes, size, kind}
-use Rattle.journal.specs.theory.Survey.{size-at, kind_at, name-at}
-use Rattle.journal.specs.theory.Stepping.{legible, legible-least, stated}
+use Rattle.journal.proofs.theory.Survey.{size-at, kind_at, name-at}
+use Rattle.journal.proofs.theory.Stepping.{legible, legible-least, stated}
 use Rattle.journal.proofs.head.head_at.Goals as goal
 use Rattle.journal.proofs.head.head_at.Goals.{After-fixed_bytes-fixed, After-pair_at-2}
 

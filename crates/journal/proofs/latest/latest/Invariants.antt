@@ -7,9 +7,9 @@ use lib.ListN.{length, drop}
 use Rattle.journal.specs.Format.{whole}
 use Rattle.journal.specs.Survey.{newer}
 use Rattle.journal.specs.declared.latest.Found.{Found}
-use Rattle.journal.specs.theory.Survey.{next-inside}
-use Rattle.journal.specs.theory.Stepping.{reached-sound}
-use Rattle.journal.specs.theory.Latest.{SoFar, so-far-start, so-far-next, so-far-end}
+use Rattle.journal.proofs.theory.Survey.{next-inside}
+use Rattle.journal.proofs.theory.Stepping.{reached-sound}
+use Rattle.journal.proofs.theory.Latest.{SoFar, so-far-start, so-far-next, so-far-end}
 use Rattle.journal.proofs.latest.latest.Given as goal
 
 abbrev pub invariant-loop-found : goal.invariant-loop-found

@@ -4,9 +4,9 @@ use Prim.Native.Nat.{◌-◌, ◌%◌}
 use native.Mathlib.Omega.{arith}
 use lib.ListN.{length, set}
 use Rattle.journal.specs.Survey.{Sound}
-use Rattle.journal.specs.theory.Survey.{name-at, next-inside}
-use Rattle.journal.specs.theory.Stepping.{name-here, name-inside, reached-sound}
-use Rattle.journal.specs.theory.Marks.{Marking, marking-start, marking-next, marking-end}
+use Rattle.journal.proofs.theory.Survey.{name-at, next-inside}
+use Rattle.journal.proofs.theory.Stepping.{name-here, name-inside, reached-sound}
+use Rattle.journal.proofs.theory.Marks.{Marking, marking-start, marking-next, marking-end}
 use Rattle.journal.proofs.marks.mark.Goals as goal
 use Rattle.journal.proofs.marks.mark.Goals.{In-loop-table}
 

@@ -6,7 +6,7 @@ use Prim.Native.Nat.{◌-◌, ◌≤◌, ◌<◌}
 use native.Mathlib.Omega.{arith}
 use lib.ListN.{length, drop}
 use Rattle.journal.specs.Format.{whole}
-use Rattle.journal.specs.theory.Survey.{next-inside}
+use Rattle.journal.proofs.theory.Survey.{next-inside}
 use Rattle.journal.proofs.marks.serves.Goals as goal
 use Rattle.journal.proofs.marks.serves.Goals.{In-loop-p}
 

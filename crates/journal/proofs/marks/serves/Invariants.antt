@@ -4,7 +4,7 @@ use Prim.Native.Nat.{◌-◌, ◌≤◌, ◌<◌}
 use native.Mathlib.Omega.{arith}
 use lib.ListN.{length, drop}
 use Rattle.journal.specs.Format.{whole}
-use Rattle.journal.specs.theory.Survey.{next-inside}
+use Rattle.journal.proofs.theory.Survey.{next-inside}
 use Rattle.journal.proofs.marks.serves.Given as goal
 
 abbrev pub invariant-loop-p : goal.invariant-loop-p

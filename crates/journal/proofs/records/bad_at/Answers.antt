@@ -8,8 +8,8 @@ use lib.ListN.{length, drop}
 use Rattle.endian.specs.Bytes.{words_at}
 use Rattle.endian.specs.theory.Bytes.{words_at-drop}
 use Rattle.journal.specs.Format.{fixed_bytes, size, kind, judged, is_answer, other_kind}
-use Rattle.journal.specs.theory.Records.{whole→facts}
-use Rattle.journal.specs.theory.Survey.{size-at, kind_at, next-inside, eighth, bad-short, bad_kind, bad-small, bad-length, bad-shape}
+use Rattle.journal.proofs.theory.Records.{whole→facts}
+use Rattle.journal.proofs.theory.Survey.{size-at, kind_at, next-inside, eighth, bad-short, bad_kind, bad-small, bad-length, bad-shape}
 use Rattle.journal.proofs.records.bad_at.Goals as goal
 use Rattle.journal.proofs.records.bad_at.Goals.{After-fixed_bytes-fixed, After-pair_at-kind, After-pair_at-size, After-shared_slice_known-1, Else-is_other, Else-size-fixed, Else-size-lt-PLAIN_BYTES}
 

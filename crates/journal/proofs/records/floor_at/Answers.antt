@@ -7,7 +7,7 @@ use lib.ListN.{drop}
 use Rattle.endian.specs.Bytes.{pair_at}
 use Rattle.endian.specs.theory.Bytes.{pair_at-drop}
 use Rattle.journal.specs.Format.{kind, floor}
-use Rattle.journal.specs.theory.Kind.{floored-if, plain-if}
+use Rattle.journal.proofs.theory.Kind.{floored-if, plain-if}
 use Rattle.journal.proofs.records.floor_at.Goals as goal
 
 pub returns-then-fixed-lt-FLOORED_BYTES : goal.returns-then-fixed-lt-FLOORED_BYTES

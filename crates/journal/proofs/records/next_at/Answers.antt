@@ -5,7 +5,7 @@ use native.Mathlib.Omega.{arith}
 use borrow.Author.Rules.{rules}
 use lib.ListN.{drop}
 use Rattle.journal.specs.Format.{size}
-use Rattle.journal.specs.theory.Survey.{size-at, next-inside}
+use Rattle.journal.proofs.theory.Survey.{size-at, next-inside}
 use Rattle.journal.proofs.records.next_at.Goals as goal
 use Rattle.journal.proofs.records.next_at.Goals.{After-pair_at}
 

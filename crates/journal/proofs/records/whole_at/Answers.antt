@@ -7,7 +7,7 @@ use lib.Dec.{eqb}
 use lib.ListN.{get_or, drop, length-drop}
 use lib.Seq.{get_or-drop}
 use Rattle.journal.specs.Format.{size}
-use Rattle.journal.specs.theory.Survey.{size-at, no_record, ends-whole}
+use Rattle.journal.proofs.theory.Survey.{size-at, no_record, ends-whole}
 use Rattle.journal.proofs.records.whole_at.Goals as goal
 use Rattle.journal.proofs.records.whole_at.Goals.{After-pair_at-size}
 

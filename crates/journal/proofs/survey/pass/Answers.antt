@@ -5,7 +5,7 @@ use Prim.Native.Nat.{◌-◌}
 use native.Mathlib.Omega.{arith}
 use lib.ListN.{length, drop}
 use Rattle.journal.specs.Format.{whole}
-use Rattle.journal.specs.theory.Survey.{Along, next-inside, along-start, along-good, along-bad, along-end}
+use Rattle.journal.proofs.theory.Survey.{Along, next-inside, along-start, along-good, along-bad, along-end}
 use Rattle.journal.proofs.survey.pass.Goals as goal
 use Rattle.journal.proofs.survey.pass.Goals.{In-loop-buffer}
 

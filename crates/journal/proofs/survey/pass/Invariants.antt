@@ -4,7 +4,7 @@ use Prim.Native.Nat.{◌-◌}
 use native.Mathlib.Omega.{arith}
 use lib.ListN.{length, drop}
 use Rattle.journal.specs.Format.{whole}
-use Rattle.journal.specs.theory.Survey.{Along, next-inside, along-start, along-good, along-bad, along-end}
+use Rattle.journal.proofs.theory.Survey.{Along, next-inside, along-start, along-good, along-bad, along-end}
 use Rattle.journal.proofs.survey.pass.Given as goal
 
 abbrev pub invariant-loop-buffer : goal.invariant-loop-buffer

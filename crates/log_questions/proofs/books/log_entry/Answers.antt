@@ -6,7 +6,7 @@ use borrow.Author.Rules.{rules}
 use Rattle.journal.specs.Format.{records}
 use Rattle.journal.specs.Reading.{damaged}
 use Rattle.journal.specs.Survey.{Entered, EntryAt}
-use Rattle.journal.specs.theory.Survey.{surveyed-ends}
+use Rattle.journal.proofs.theory.Survey.{surveyed-ends}
 use Rattle.log_questions.specs.theory.Entries.{entry-damaged, entry-few, entry-room, entry_found}
 use Rattle.log_questions.proofs.books.log_entry.Goals as goal
 use Rattle.log_questions.proofs.books.log_entry.Goals.{In-At, In_default}

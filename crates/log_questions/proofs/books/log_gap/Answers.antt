@@ -12,10 +12,10 @@ use Rattle.plane.specs.Refusal.{Valid}
 use Rattle.plane.specs.Floor.{Floored, on}
 use Rattle.journal.specs.Format.{records}
 use Rattle.journal.specs.Reading.{damaged}
-use Rattle.journal.specs.theory.Survey.{surveyed-ends}
+use Rattle.journal.proofs.theory.Survey.{surveyed-ends}
 use Rattle.gaps.specs.Gap.{on_floor, size_rows_of}
 use Rattle.gaps.specs.Search.{numbers_of}
-use Rattle.gaps.specs.theory.Replies.{some_pair, gap-refused, gap-damaged, gap-few, gap-large, gap-found}
+use Rattle.gaps.proofs.theory.Replies.{some_pair, gap-refused, gap-damaged, gap-few, gap-large, gap-found}
 use Rattle.log_questions.proofs.books.log_gap.Goals as goal
 use Rattle.log_questions.proofs.books.log_gap.Goals.{Else-count-lt2, In_default, In_default-admit_sizes, In_default-survey, Start}
 

@@ -5,7 +5,7 @@ use borrow.Author.Rules.{rules}
 use Rattle.plane.specs.Refusal.{Valid}
 use Rattle.journal.specs.Format.{records}
 use Rattle.journal.specs.Reading.{damaged}
-use Rattle.journal.specs.theory.Survey.{surveyed-ends}
+use Rattle.journal.proofs.theory.Survey.{surveyed-ends}
 use Rattle.neighbours.specs.Search.{near_numbers}
 use Rattle.log_questions.specs.theory.Books.{nearest-refused, nearest-damaged, nearest-nobody, nearest-somebody}
 use Rattle.log_questions.proofs.books.log_nearest.Goals as goal

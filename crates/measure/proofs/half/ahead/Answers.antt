@@ -7,7 +7,7 @@ use Rattle.plane.specs.Limits.{corners-small}
 use Rattle.plane.specs.Point.{points, corner, ◌⊖◌}
 use Rattle.plane.specs.Forms.{edges}
 use Rattle.plane.specs.Cycle.{corner_round}
-use Rattle.plane.specs.theory.sum.Positions.{edges-at-most, round-inner}
+use Rattle.plane.proofs.theory.sum.Positions.{edges-at-most, round-inner}
 use Rattle.polygon.specs.Point.{at}
 use Rattle.polygon.specs.theory.Small.{small-corner}
 use Rattle.calipers.specs.Side.{Stands}

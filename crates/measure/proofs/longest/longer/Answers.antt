@@ -8,7 +8,7 @@ use mir.Syntax.{w64}
 use mir.Val.{to_z, of_z}
 use Rattle.integer.specs.Machine.{result-is}
 use Rattle.plane.specs.Measure.{squared}
-use Rattle.plane.specs.theory.forms.Squared.{squared-nonneg}
+use Rattle.plane.proofs.theory.forms.Squared.{squared-nonneg}
 use Rattle.calipers.specs.Side.{corner_of}
 use Rattle.measure.specs.declared.Length.{Length}
 use Rattle.measure.specs.Scan.{pair_at, Behind, Kept, replaced}

@@ -8,7 +8,7 @@ use Rattle.integer.specs.Machine.{result-is}
 use Rattle.plane.specs.Point.{◌⊖◌}
 use Rattle.plane.specs.Turn.{cross}
 use Rattle.plane.specs.Direction.{value}
-use Rattle.plane.specs.theory.forms.Vector.{value-nonneg}
+use Rattle.plane.proofs.theory.forms.Vector.{value-nonneg}
 use Rattle.calipers.specs.Side.{corner_of, next_of}
 use Rattle.measure.specs.Scan.{measured_at}
 use Rattle.measure.proofs.narrowest.measured.Goals as goal

@@ -5,7 +5,7 @@ use Prim.Native.Nat.{◌*◌}
 use native.Mathlib.Omega.{arith}
 use borrow.Author.Rules.{rules}
 use borrow.Author.Tests.{ltb-true, le-ltb}
-use Rattle.plane.specs.theory.lists.Sought.{true-not-false}
+use Rattle.plane.proofs.theory.lists.Sought.{true-not-false}
 use Rattle.measure.specs.declared.narrowest.Across.{Across}
 use Rattle.measure.specs.Scan.{is_narrower, NoNarrower, stays, gives-way}
 use Rattle.measure.proofs.narrowest.narrower.Goals as goal

@@ -3,7 +3,7 @@ use mathlib.Core.Path.{refl, sym}
 use native.Mathlib.Omega.{arith}
 use borrow.Author.Rules.{rules}
 use Rattle.plane.specs.Floor.{on, two_shapes}
-use Rattle.plane.specs.theory.lists.Flat.{points-length}
+use Rattle.plane.proofs.theory.lists.Flat.{points-length}
 use Rattle.polygon.specs.theory.Fronts.{front_length}
 use Rattle.delivery.specs.theory.Delivery.{front-paired, made-delivered}
 use Rattle.pair_questions.proofs.merging.merge_in.Goals as goal

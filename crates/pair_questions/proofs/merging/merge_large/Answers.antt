@@ -2,7 +2,7 @@
 use native.Mathlib.Omega.{arith}
 use borrow.Author.Rules.{rules}
 use Rattle.plane.specs.Limits.{max_corners}
-use Rattle.plane.specs.theory.lists.Flat.{points-length}
+use Rattle.plane.proofs.theory.lists.Flat.{points-length}
 use Rattle.pair_questions.proofs.merging.merge_large.Goals as goal
 
 pub merge_in-requires : goal.merge_in-requires

@@ -15,18 +15,18 @@ use Rattle.plane.specs.Refusal.{Valid, InRange}
 use Rattle.plane.specs.Direction.{value, support}
 use Rattle.plane.specs.Furthest.{bad_direction}
 use Rattle.plane.specs.Measure.{root_below}
-use Rattle.plane.specs.theory.lists.Flat.{numbers-points}
-use Rattle.plane.specs.theory.direction.Rows.{direction-near}
-use Rattle.plane.specs.theory.support.Bounds.{support-size}
+use Rattle.plane.proofs.theory.lists.Flat.{numbers-points}
+use Rattle.plane.proofs.theory.direction.Rows.{direction-near}
+use Rattle.plane.proofs.theory.support.Bounds.{support-size}
 use Rattle.polygon.specs.Point.{at}
 use Rattle.polygon.specs.theory.Small.{small-wide}
 use Rattle.strips.specs.Strip.{least, gap_in}
 use Rattle.separator.specs.theory.Direction.{good-small, opposite-good}
 use Rattle.separator.proofs.Parts.{point-read}
 use Rattle.passage.specs.Corridor.{widest_of}
-use Rattle.passage.specs.theory.Widest.{widest-positive}
-use Rattle.passage.specs.theory.Rows.{widest-good}
-use Rattle.passage.specs.theory.Found.{facing-some, facing-name}
+use Rattle.passage.proofs.theory.Widest.{widest-positive}
+use Rattle.passage.proofs.theory.Rows.{widest-good}
+use Rattle.passage.proofs.theory.Found.{facing-some, facing-name}
 use Rattle.passage.proofs.corridor.widest.Goals as goal
 use Rattle.passage.proofs.corridor.widest.Goals.{After-least-high, After-primitive-n, After-reach-low, Start}
 

@@ -10,8 +10,8 @@ use Rattle.integer.specs.Machine.{result-is}
 use Rattle.integer.specs.Order.{lt-lt_z}
 use Rattle.plane.specs.Direction.{value}
 use Rattle.plane.specs.Measure.{root_below}
-use Rattle.plane.specs.theory.forms.Vector.{value-nonneg, square-positive}
-use Rattle.plane.specs.theory.direction.Rows.{direction-some}
+use Rattle.plane.proofs.theory.forms.Vector.{value-nonneg, square-positive}
+use Rattle.plane.proofs.theory.direction.Rows.{direction-some}
 use Rattle.polygon.specs.Point.{at}
 use Rattle.polygon.specs.theory.Small.{small-wide}
 use Rattle.measure.specs.theory.Rounded.{rounded-unique}

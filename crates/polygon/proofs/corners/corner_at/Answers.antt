@@ -5,7 +5,7 @@ use native.Mathlib.Omega.{arith}
 use mir.Facts.{to_z-of_z}
 use borrow.Author.Rules.{sfits_of}
 use Rattle.plane.specs.Point.{point}
-use Rattle.plane.specs.theory.lists.Flat.{points-length, points-x, points-y}
+use Rattle.plane.proofs.theory.lists.Flat.{points-length, points-x, points-y}
 use Rattle.polygon.proofs.corners.corner_at.Goals as goal
 
 pub overflow_mul-result : goal.overflow_mul-result

@@ -1,6 +1,6 @@
 -- `count` meets its contract: two numbers to a corner.
 use mathlib.Core.Path.{sym}
-use Rattle.plane.specs.theory.lists.Flat.{points-length}
+use Rattle.plane.proofs.theory.lists.Flat.{points-length}
 use Rattle.polygon.proofs.corners.count.Goals as goal
 
 pub returns : goal.returns

@@ -4,7 +4,7 @@ use mathlib.Core.List.{List}
 use borrow.Author.Rules.{rules}
 use Rattle.plane.specs.Point.{Point, numbers}
 use Rattle.plane.specs.Output.{overwritten}
-use Rattle.plane.specs.theory.mirror.Mirror.{mirror-known}
+use Rattle.plane.proofs.theory.mirror.Mirror.{mirror-known}
 use Rattle.polygon.specs.theory.Peak.{peak-last}
 use Rattle.polygon.proofs.opposite.mirror.Goals as goal
 

@@ -10,7 +10,7 @@ use lib.Seq.{paste, length-paste}
 use Rattle.plane.specs.Point.{points, numbers, opposite}
 use Rattle.plane.specs.Corner.{mirrored}
 use Rattle.plane.specs.Output.{overwritten}
-use Rattle.plane.specs.theory.lists.Flat.{points-length, numbers-append}
+use Rattle.plane.proofs.theory.lists.Flat.{points-length, numbers-append}
 use Rattle.polygon.specs.theory.Negated.{negated-front, negated-rest, pasted-twice}
 use Rattle.polygon.proofs.opposite.write_from.Goals as goal
 use Rattle.polygon.proofs.opposite.write_from.Goals.{After-negate}

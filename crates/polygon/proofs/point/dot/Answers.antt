@@ -8,7 +8,7 @@ use Rattle.integer.specs.Machine.{machine, bounded, machine-fits, machine-is, re
 use Rattle.plane.specs.Cut.{quarter}
 use Rattle.plane.specs.Point.{point}
 use Rattle.plane.specs.Turn.{cross}
-use Rattle.plane.specs.theory.forms.Vector.{value-cross}
+use Rattle.plane.proofs.theory.forms.Vector.{value-cross}
 use Rattle.polygon.specs.Point.{at, Small}
 use Rattle.polygon.proofs.point.dot.Goals as goal
 use Rattle.polygon.proofs.point.dot.Goals.{After-struct_told-2-1}

@@ -6,7 +6,7 @@ use Rattle.integer.specs.Machine.{result-is}
 use Rattle.integer.specs.Order.{lt_z-true, lt_z-false}
 use Rattle.plane.specs.Point.{Point, point}
 use Rattle.plane.specs.Shape.{precedes}
-use Rattle.plane.specs.theory.forms.Precedes.{precedes-below, precedes-above, precedes-level}
+use Rattle.plane.proofs.theory.forms.Precedes.{precedes-below, precedes-above, precedes-level}
 use Rattle.polygon.specs.Point.{at}
 use Rattle.polygon.proofs.point.precedes.Goals as goal
 use Rattle.polygon.proofs.point.precedes.Goals.{After-struct_told-2-1}

@@ -6,7 +6,7 @@ use lib.ListN.{length}
 use Rattle.plane.specs.Point.{points, corner}
 use Rattle.plane.specs.Shape.{precedes}
 use Rattle.plane.specs.Refusal.{bad_start}
-use Rattle.plane.specs.theory.lists.Sought.{Sought, sought-start, sought-more, sought-yes, sought-no}
+use Rattle.plane.proofs.theory.lists.Sought.{Sought, sought-start, sought-more, sought-yes, sought-no}
 use Rattle.polygon.proofs.rules.bad_start.Goals as goal
 use Rattle.polygon.proofs.rules.bad_start.Goals.{In-loop-c}
 

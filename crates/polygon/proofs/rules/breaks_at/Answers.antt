@@ -10,7 +10,7 @@ use lib.Signed.{lt_z}
 use mir.Syntax.{w64}
 use Rattle.integer.specs.Machine.{result-is}
 use Rattle.plane.specs.Shape.{next}
-use Rattle.plane.specs.theory.refusals.Tests.{breaks-own, breaks-end, breaks-other}
+use Rattle.plane.proofs.theory.refusals.Tests.{breaks-own, breaks-end, breaks-other}
 use Rattle.polygon.proofs.rules.breaks_at.Goals as goal
 use Rattle.polygon.proofs.rules.breaks_at.Goals.{After-next-end}
 

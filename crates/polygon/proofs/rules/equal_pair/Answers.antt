@@ -5,7 +5,7 @@ use native.Mathlib.Omega.{arith}
 use lib.ListN.{length}
 use Rattle.plane.specs.Point.{points, corner}
 use Rattle.plane.specs.Shape.{precedes}
-use Rattle.plane.specs.theory.refusals.Tests.{equal_pair-other, equal_pair-neither}
+use Rattle.plane.proofs.theory.refusals.Tests.{equal_pair-other, equal_pair-neither}
 use Rattle.polygon.proofs.rules.equal_pair.Goals as goal
 use Rattle.polygon.proofs.rules.equal_pair.Goals.{Else-count-ne2}
 

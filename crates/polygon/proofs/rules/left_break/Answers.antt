@@ -8,7 +8,7 @@ use Rattle.plane.specs.Point.{points}
 use Rattle.plane.specs.Search.{some}
 use Rattle.plane.specs.Shape.{breaks}
 use Rattle.plane.specs.Refusal.{left_broken, breaking_edge}
-use Rattle.plane.specs.theory.lists.Sought.{Sought, sought-start, sought-more, sought-found, sought-yes, sought-no}
+use Rattle.plane.proofs.theory.lists.Sought.{Sought, sought-start, sought-more, sought-found, sought-yes, sought-no}
 use Rattle.polygon.specs.declared.rules.Broken.TheVariants.{Nowhere}
 use Rattle.polygon.proofs.LeftRule.{left-break-at, left-break-nowhere}
 use Rattle.polygon.proofs.rules.left_break.Goals as goal

@@ -11,7 +11,7 @@ use lib.ListN.{length, get_or}
 use mir.Facts.{to_z-of_z}
 use Rattle.plane.specs.Search.{some}
 use Rattle.plane.specs.Refusal.{outside}
-use Rattle.plane.specs.theory.refusals.Tests.{outside-some}
+use Rattle.plane.proofs.theory.refusals.Tests.{outside-some}
 use Rattle.polygon.proofs.rules.some_outside.Goals as goal
 use Rattle.polygon.proofs.rules.some_outside.Goals.{After-outside}
 

@@ -4,7 +4,7 @@ use Prim.Native.Nat.{◌-◌}
 use native.Mathlib.Omega.{arith}
 use lib.ListN.{length}
 use Rattle.plane.specs.Point.{points}
-use Rattle.plane.specs.theory.lists.Sought.{Sought, sought-start, sought-more, sought-found, sought-none}
+use Rattle.plane.proofs.theory.lists.Sought.{Sought, sought-start, sought-more, sought-found, sought-none}
 use Rattle.ring.specs.Ring.{inward_at, first_inward}
 use Rattle.ring.proofs.inward.find.Goals as goal
 

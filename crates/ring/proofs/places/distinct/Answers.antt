@@ -9,7 +9,7 @@ use lib.Dec.{ltb}
 use lib.ListN.{length, get_or}
 use Rattle.plane.specs.Point.{Point, points, corner, same_point}
 use Rattle.plane.specs.Shape.{next}
-use Rattle.plane.specs.theory.lists.Next.{next-below}
+use Rattle.plane.proofs.theory.lists.Next.{next-below}
 use Rattle.ring.specs.Round.{closed, differing, distinct}
 use Rattle.ring.specs.Ring.{walked}
 use Rattle.ring.specs.Places.{Held}

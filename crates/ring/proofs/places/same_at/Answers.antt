@@ -4,7 +4,7 @@ use mathlib.Core.Bool.{Bool, not, ◌&&◌}
 use borrow.Author.Rules.{rules}
 use Rattle.plane.specs.Point.{points, corner}
 use Rattle.plane.specs.Shape.{precedes}
-use Rattle.plane.specs.theory.forms.Precedes.{same_point-neither}
+use Rattle.plane.proofs.theory.forms.Precedes.{same_point-neither}
 use Rattle.ring.proofs.places.same_at.Goals as goal
 
 pub returns-then-precedes_at : goal.returns-then-precedes_at

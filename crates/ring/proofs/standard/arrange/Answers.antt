@@ -7,8 +7,8 @@ use borrow.Author.Rules.{rules}
 use lib.IntN.{ℤ}
 use lib.ListN.{length, length-map}
 use Rattle.plane.specs.Point.{Point, points, numbers, corner}
-use Rattle.plane.specs.theory.lists.Flat.{numbers-length}
-use Rattle.plane.specs.theory.lists.Filled.{Filled, filled-start, filled-length, filled-corner, filled-done}
+use Rattle.plane.proofs.theory.lists.Flat.{numbers-length}
+use Rattle.plane.proofs.theory.lists.Filled.{Filled, filled-start, filled-length, filled-corner, filled-done}
 use Rattle.ring.specs.Round.{in_sense}
 use Rattle.ring.specs.Ring.{walked}
 use Rattle.ring.specs.theory.Steps.{map_at, sense-length}

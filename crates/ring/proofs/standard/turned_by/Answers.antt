@@ -4,7 +4,7 @@ use Prim.Native.Nat.{◌+◌, ◌-◌, ◌<◌}
 use native.Mathlib.Omega.{arith}
 use borrow.Author.Rules.{rules}
 use Rattle.plane.specs.Cycle.{turned}
-use Rattle.plane.specs.theory.lists.Turned.{Turned, ahead, round, turned-cases}
+use Rattle.plane.proofs.theory.lists.Turned.{Turned, ahead, round, turned-cases}
 use Rattle.ring.proofs.standard.turned_by.Goals as goal
 
 pub overflow_add-result : goal.overflow_add-result

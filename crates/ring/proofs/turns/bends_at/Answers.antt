@@ -6,7 +6,7 @@ use borrow.Author.Rules.{rules}
 use lib.ListN.{length, get_or}
 use Rattle.plane.specs.Point.{points, corner}
 use Rattle.plane.specs.Shape.{next}
-use Rattle.plane.specs.theory.lists.Next.{next-below}
+use Rattle.plane.proofs.theory.lists.Next.{next-below}
 use Rattle.ring.specs.Round.{in_sense, straight}
 use Rattle.ring.specs.Ring.{previous}
 use Rattle.ring.specs.theory.Steps.{sense-below, previous-below}

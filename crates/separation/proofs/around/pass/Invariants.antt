@@ -11,8 +11,8 @@ use Rattle.integer.specs.Machine.{result-is}
 use Rattle.plane.specs.Point.{points}
 use Rattle.plane.specs.Turn.{cross}
 use Rattle.plane.specs.Forms.{edges}
-use Rattle.plane.specs.theory.lists.Flat.{points-length}
-use Rattle.plane.specs.theory.lists.Sought.{either-false}
+use Rattle.plane.proofs.theory.lists.Flat.{points-length}
+use Rattle.plane.proofs.theory.lists.Sought.{either-false}
 use Rattle.plane.specs.VectorSum.{vector_sum}
 use Rattle.plane.specs.Cut.{outward}
 use Rattle.polygon.specs.Point.{at}

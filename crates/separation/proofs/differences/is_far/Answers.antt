@@ -2,7 +2,7 @@
 use mathlib.Core.Path.{◌∙◌}
 use Rattle.plane.specs.Point.{points}
 use Rattle.plane.specs.Corner.{mirrored}
-use Rattle.plane.specs.theory.lists.Members.{mirrored-some}
+use Rattle.plane.proofs.theory.lists.Members.{mirrored-some}
 use Rattle.polygon.specs.theory.Extents.{extends-small, far-sum}
 use Rattle.separation.specs.theory.Image.{image-extends}
 use Rattle.separation.proofs.differences.is_far.Goals as goal

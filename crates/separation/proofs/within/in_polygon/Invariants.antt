@@ -11,7 +11,7 @@ use mir.Val.{hbits, to_z, of_z}
 use Rattle.integer.specs.Machine.{result-is}
 use Rattle.plane.specs.Point.{points}
 use Rattle.plane.specs.Forms.{edges}
-use Rattle.plane.specs.theory.lists.Sought.{true-not-false}
+use Rattle.plane.proofs.theory.lists.Sought.{true-not-false}
 use Rattle.calipers.specs.theory.Carry.{first_next, second-next, corners-fit, edges_fit}
 use Rattle.separation.proofs.Beside.{Beside, beside-start, is_right, beside-right, beside-more, beside-less, beside-all}
 use Rattle.separation.proofs.within.in_polygon.Given as goal

@@ -13,7 +13,7 @@ use Rattle.divisor.specs.Divisor.{gcd}
 use Rattle.plane.specs.Point.{point}
 use Rattle.plane.specs.Furthest.{parts_divisor}
 use Rattle.plane.specs.Primitive.{primitive}
-use Rattle.plane.specs.theory.direction.Rows.{some-divisor}
+use Rattle.plane.proofs.theory.direction.Rows.{some-divisor}
 use Rattle.polygon.specs.Point.{at, Small}
 use Rattle.separator.specs.theory.Direction.{divisor-limit, primitive-small}
 use Rattle.separator.proofs.Parts.{part-fits, part-read, point-read}

@@ -6,7 +6,7 @@ use Rattle.plane.specs.Limits.{max_points}
 use Rattle.plane.specs.Point.{points}
 use Rattle.plane.specs.Floor.{on}
 use Rattle.plane.specs.Output.{room_row}
-use Rattle.plane.specs.theory.lists.Flat.{points-length}
+use Rattle.plane.proofs.theory.lists.Flat.{points-length}
 use Rattle.admission.specs.theory.Judged.{refuses-append}
 use Rattle.admission.specs.theory.Door.{rest-refused}
 use Rattle.ring.specs.Ring.{ring_shape, inward_row, ask_ring}

@@ -11,7 +11,7 @@ use Rattle.plane.specs.Point.{Point, points, numbers}
 use Rattle.plane.specs.Floor.{on}
 use Rattle.plane.specs.Output.{overwritten}
 use Rattle.plane.specs.Question.{Question}
-use Rattle.plane.specs.theory.lists.Flat.{points-numbers, numbers-length}
+use Rattle.plane.proofs.theory.lists.Flat.{points-numbers, numbers-length}
 use Rattle.delivery.specs.theory.Delivery.{copied}
 use Rattle.admission.specs.theory.Door.{rest-refused, all-written}
 use Rattle.ring.specs.Ring.{ring_shape, inward_row, ask_ring}

@@ -3,7 +3,7 @@ use mathlib.Core.Path.{sym}
 use native.Mathlib.Omega.{arith}
 use borrow.Author.Rules.{rules}
 use Rattle.plane.specs.Floor.{on}
-use Rattle.plane.specs.theory.lists.Flat.{points-length}
+use Rattle.plane.proofs.theory.lists.Flat.{points-length}
 use Rattle.polygon.specs.theory.Fronts.{front_length}
 use Rattle.delivery.specs.theory.Delivery.{front-paired, sweep-delivered}
 use Rattle.shape_questions.proofs.sweeping.sweep_in.Goals as goal

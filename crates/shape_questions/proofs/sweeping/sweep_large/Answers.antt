@@ -2,7 +2,7 @@
 use native.Mathlib.Omega.{arith}
 use borrow.Author.Rules.{rules}
 use Rattle.plane.specs.Limits.{max_points}
-use Rattle.plane.specs.theory.lists.Flat.{points-length}
+use Rattle.plane.proofs.theory.lists.Flat.{points-length}
 use Rattle.shape_questions.proofs.sweeping.sweep_large.Goals as goal
 
 pub sweep_in-requires : goal.sweep_in-requires

@@ -4,7 +4,7 @@ use native.Mathlib.Omega.{arith}
 use borrow.Author.Rules.{rules}
 use lib.ListN.{length}
 use Rattle.plane.specs.Point.{points}
-use Rattle.plane.specs.theory.lists.Flat.{points-length}
+use Rattle.plane.proofs.theory.lists.Flat.{points-length}
 use Rattle.sorting.specs.theory.Interior.{Sifting, sift-start, sift-room, sift-one, sift-end}
 use Rattle.sorting.proofs.interior.copy_outer.Goals as goal
 use Rattle.sorting.proofs.interior.copy_outer.Goals.{In-loop-i}

@@ -9,7 +9,7 @@ use mir.Val.{to_z, of_z, hbits}
 use Rattle.integer.specs.Machine.{result-is}
 use Rattle.integer.specs.Order.{le_of_eq, le_trans}
 use Rattle.plane.specs.Point.{points, ◌∈◌}
-use Rattle.plane.specs.theory.lists.Members.{position-member}
+use Rattle.plane.proofs.theory.lists.Members.{position-member}
 use Rattle.polygon.specs.Point.{at}
 use Rattle.sorting.proofs.interior.inner_rectangle.Goals as goal
 

@@ -7,7 +7,7 @@ use mir.Syntax.{w64}
 use Rattle.integer.specs.Machine.{result-is}
 use Rattle.plane.specs.Point.{points}
 use Rattle.plane.specs.Forms.{edges}
-use Rattle.plane.specs.theory.lists.Flat.{points-length}
+use Rattle.plane.proofs.theory.lists.Flat.{points-length}
 use Rattle.sums.specs.Advance.{state, next_corners, Walked}
 use Rattle.calipers.specs.theory.Carry.{first_next, second-next, edges_fit}
 use Rattle.sums.specs.theory.Summed.{next-few}

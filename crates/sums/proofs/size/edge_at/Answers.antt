@@ -3,7 +3,7 @@ use mathlib.Core.Path.{◌∙◌, ap₂}
 use native.Mathlib.Omega.{arith}
 use borrow.Author.Rules.{rules}
 use Rattle.plane.specs.Point.{◌⊖◌}
-use Rattle.plane.specs.theory.lists.Flat.{points-length}
+use Rattle.plane.proofs.theory.lists.Flat.{points-length}
 use Rattle.polygon.specs.theory.Small.{small-corner}
 use Rattle.sums.proofs.size.edge_at.Goals as goal
 

@@ -6,7 +6,7 @@ use lib.ListN.{length}
 use Rattle.plane.specs.Limits.{max_corners}
 use Rattle.plane.specs.Point.{points}
 use Rattle.plane.specs.Corner.{shape_of, sums}
-use Rattle.plane.specs.theory.lists.Flat.{points-length}
+use Rattle.plane.proofs.theory.lists.Flat.{points-length}
 use Rattle.sums.specs.Size.{enough}
 use Rattle.calipers.specs.theory.Steps.{at-begin}
 use Rattle.sums.specs.theory.Summed.{sum-few, reckoned-count}

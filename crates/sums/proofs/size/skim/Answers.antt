@@ -15,8 +15,8 @@ use Rattle.plane.specs.Point.{Point, points, corner, ◌⊖◌}
 use Rattle.plane.specs.Turn.{cross}
 use Rattle.plane.specs.Refusal.{InRange}
 use Rattle.plane.specs.Forms.{edges}
-use Rattle.plane.specs.theory.lists.Flat.{points-length}
-use Rattle.plane.specs.theory.sum.Positions.{edges-at-most, round-inner}
+use Rattle.plane.proofs.theory.lists.Flat.{points-length}
+use Rattle.plane.proofs.theory.sum.Positions.{edges-at-most, round-inner}
 use Rattle.polygon.specs.Point.{Small}
 use Rattle.polygon.specs.theory.Small.{small-step, small-corner}
 use Rattle.calipers.specs.Side.{onward, Carried}

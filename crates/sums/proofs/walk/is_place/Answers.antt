@@ -9,7 +9,7 @@ use lib.ListN.{length}
 use Rattle.plane.specs.Limits.{max_corners, corners-small}
 use Rattle.plane.specs.Point.{points}
 use Rattle.plane.specs.Forms.{edges}
-use Rattle.plane.specs.theory.sum.Positions.{edges-at-most}
+use Rattle.plane.proofs.theory.sum.Positions.{edges-at-most}
 use Rattle.sums.specs.Advance.{state}
 use Rattle.sums.specs.PlaceAfter.{is_place}
 use Rattle.sums.specs.PlaceTest.{follows, ends, stands_at}

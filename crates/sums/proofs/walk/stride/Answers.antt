@@ -7,8 +7,8 @@ use lib.ListN.{length}
 use mir.Syntax.{w64}
 use Rattle.integer.specs.Machine.{result-is}
 use Rattle.plane.specs.Point.{points}
-use Rattle.plane.specs.theory.lists.Flat.{points-length}
-use Rattle.plane.specs.theory.sum.Positions.{edges-at-most}
+use Rattle.plane.proofs.theory.lists.Flat.{points-length}
+use Rattle.plane.proofs.theory.sum.Positions.{edges-at-most}
 use Rattle.calipers.specs.Side.{walk_of}
 use Rattle.sums.specs.Advance.{next_corners}
 use Rattle.calipers.specs.theory.Carry.{first_next, second-next, corners-fit, edges_fit}

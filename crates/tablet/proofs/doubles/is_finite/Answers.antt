@@ -1,6 +1,6 @@
 -- `is_finite` meets its contract: between the infinities is what is finite.
 use lib.Ieee.{of_bits, neg, nan_bits}
-use Rattle.tablet.specs.theory.Tested.{finite-below, finite-not}
+use Rattle.tablet.proofs.theory.Tested.{finite-below, finite-not}
 use Rattle.tablet.proofs.doubles.is_finite.Goals as goal
 
 pub float_from_bits-infinity : goal.float_from_bits-infinity

@@ -1,6 +1,6 @@
 -- `is_short` meets its contract.
 use lib.Ieee.{of_bits, neg}
-use Rattle.tablet.specs.theory.Tested.{short-tested, short-low}
+use Rattle.tablet.proofs.theory.Tested.{short-tested, short-low}
 use Rattle.tablet.proofs.doubles.is_short.Goals as goal
 
 pub returns-then-v : goal.returns-then-v

@@ -1,6 +1,6 @@
 -- `is_small` meets its contract.
 use lib.Ieee.{of_bits, neg}
-use Rattle.tablet.specs.theory.Tested.{small-tested, small-high, small_low}
+use Rattle.tablet.proofs.theory.Tested.{small-tested, small-high, small_low}
 use Rattle.tablet.proofs.doubles.is_small.Goals as goal
 
 pub returns-then-v-2 : goal.returns-then-v-2

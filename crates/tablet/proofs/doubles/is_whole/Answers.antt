@@ -2,7 +2,7 @@
 use Rattle.std.proofs.Common.{ap, ◌∙◌, w64, rules}
 use lib.Ieee.{Float, binary64, of_bits, neg, eq, of_int}
 use Rattle.integer.specs.Machine.{result-is}
-use Rattle.tablet.specs.theory.Tested.{cuttable, whole-tested, large-high, large-low}
+use Rattle.tablet.proofs.theory.Tested.{cuttable, whole-tested, large-high, large-low}
 use Rattle.tablet.proofs.doubles.is_whole.Goals as goal
 
 pub truncating_f64_to_i64-requires : goal.truncating_f64_to_i64-requires

@@ -3,7 +3,7 @@ use Rattle.std.proofs.Common.{T, w32}
 use lib.Ieee.{binary64, of_bits, in_signed}
 use lib.Ieee.Casts.{to_signed_in}
 use Rattle.integer.specs.Machine.{result-is}
-use Rattle.tablet.specs.theory.Tested.{castable, cast_is, zero_is}
+use Rattle.tablet.proofs.theory.Tested.{castable, cast_is, zero_is}
 use Rattle.tablet.proofs.doubles.number.Goals as goal
 use Rattle.tablet.proofs.doubles.number.Goals.{After-row_known-1}
 

@@ -2,7 +2,7 @@
 use mathlib.Core.Path.{refl, sym, ap, ◌∙◌}
 use mir.Syntax.{w32}
 use Rattle.integer.specs.Machine.{result-is}
-use Rattle.tablet.specs.theory.Rows.{not-finite-row, not-whole-row, far-row}
+use Rattle.tablet.proofs.theory.Rows.{not-finite-row, not-whole-row, far-row}
 use Rattle.tablet.specs.declared.reading.Read.TheVariants.{Whole}
 use Rattle.admission.specs.theory.Judged.{refuses}
 use borrow.Author.Rules.{rules}

@@ -3,7 +3,7 @@ use mathlib.Core.Path.{sym, ◌∙◌}
 use Prim.Native.Nat.{◌-◌}
 use native.Mathlib.Omega.{arith}
 use borrow.Author.Rules.{rules}
-use Rattle.plane.specs.theory.lists.Next.{next-end, next-on}
+use Rattle.plane.proofs.theory.lists.Next.{next-end, next-on}
 use Rattle.tangents.proofs.rest.previous.Goals as goal
 
 pub returns-then-i-eq0 : goal.returns-then-i-eq0

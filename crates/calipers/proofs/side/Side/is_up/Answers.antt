@@ -6,7 +6,7 @@ use Rattle.integer.specs.Machine.{result-is}
 use Rattle.integer.specs.Order.{lt_z-true, lt_z-false}
 use Rattle.plane.specs.Point.{point, origin}
 use Rattle.plane.specs.Forms.{up}
-use Rattle.plane.specs.theory.forms.Precedes.{precedes-below, precedes-above, precedes-level}
+use Rattle.plane.proofs.theory.forms.Precedes.{precedes-below, precedes-above, precedes-level}
 use Rattle.calipers.specs.Side.{next_of}
 use Rattle.calipers.proofs.side.Side.is_up.Goals as goal
 use Rattle.calipers.proofs.side.Side.is_up.Goals.{After-struct_told-1}

@@ -15,7 +15,7 @@ use Rattle.calipers.specs.Walk.{At}
 use Rattle.sums.specs.Advance.{state, next_corners, Advanced}
 use Rattle.parts.specs.Part.{part_corners}
 use Rattle.sums.specs.theory.Reached.{place-standing}
-use Rattle.parts.specs.theory.Parts.{part-remaining, part-advanced}
+use Rattle.parts.proofs.theory.Parts.{part-remaining, part-advanced}
 use Rattle.part_questions.specs.Walk.{state_of}
 use Rattle.part_questions.specs.theory.Parts.{part-little-room, part-done, part-idle}
 use Rattle.part_questions.proofs.walk.Walk.write.Goals as goal
