@@ -5,7 +5,8 @@ use Rattle.plane.specs.Point.{same_point}
 use Rattle.plane.specs.Turn.{cross, turn}
 use Rattle.plane.specs.Shape.{breaks, precedes}
 use Rattle.plane.specs.Reply.{Reply, answered, refused}
-use Rattle.plane.specs.Refusal.{bad_count, too_many, outside, some_outside, equal_pair, left_broken, rule_broken, broken_edge, broken_corner}
+use Rattle.plane.specs.Refusal.{bad_count, too_many, outside, some_outside, equal_pair, left_broken, rule_broken, broken_edge}
+use Rattle.plane.specs.Refusal.{broken_corner}
 use Rattle.plane.specs.Refusal.{breaking_edge, breaking_corner, bad_start}
 use Rattle.plane.specs.Floor.{Floored, on}
 use Rattle.plane.specs.Question.{reply}

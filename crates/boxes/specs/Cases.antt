@@ -7,7 +7,8 @@ use Rattle.plane.specs.Shape.{breaks, precedes}
 use Rattle.plane.specs.Direction.{value, greater, support}
 use Rattle.plane.specs.Measure.{squared, edge_turn, height, edge_squared}
 use Rattle.plane.specs.Reply.{Reply, answered, refused}
-use Rattle.plane.specs.Refusal.{bad_count, too_many, outside, some_outside, equal_pair, left_broken, rule_broken, broken_edge, broken_corner}
+use Rattle.plane.specs.Refusal.{bad_count, too_many, outside, some_outside, equal_pair, left_broken, rule_broken, broken_edge}
+use Rattle.plane.specs.Refusal.{broken_corner}
 use Rattle.plane.specs.Refusal.{breaking_edge, breaking_corner, bad_start}
 use Rattle.plane.specs.Floor.{Floored, on}
 use Rattle.plane.specs.Question.{reply}
@@ -42,7 +43,9 @@ cases =
     ∷ []
 
 pub cases-hold : map (λ (c : Case). reply (ask_box c.shape)) cases ≡ map (λ (c : Case). c.stated) cases
-unfolding max_corners max_coordinate same_point turn breaks precedes bad_count too_many outside some_outside equal_pair left_broken rule_broken
-    broken_edge broken_corner breaking_edge breaking_corner bad_start value greater support squared edge_turn height edge_squared least spread
+unfolding max_corners max_coordinate same_point turn breaks precedes bad_count too_many outside some_outside equal_pair left_broken
+    rule_broken
+    broken_edge broken_corner breaking_edge breaking_corner bad_start value greater support squared edge_turn height edge_squared least
+    spread
     along half_round no_larger box_edge reply
 cases-hold = refl

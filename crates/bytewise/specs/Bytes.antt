@@ -4,7 +4,8 @@
 --     words_in bs           as many four-byte numbers as there are; up to three bytes at the end belong to none
 --     list_of bs            these numbers; none if the count of bytes is "no multiple of four", since an empty list is refused 1
 --     ask_judge_bytes a f, ask_relation_bytes a f b g            judging; how two shapes are to each other
---     ask_sum_bytes a f b g out, ask_merge_bytes a f b g out     a shape made of two; the output is asked about as the numbers that it holds
+--     ask_sum_bytes a f b g out, ask_merge_bytes a f b g out     a shape made of two; the output is asked about as the numbers that it
+-- holds
 --     bytes_after q out     the whole output bytes afterwards
 -- What it means: `Meaning.antt`, and there `room-in-bytes`, `refused-leaves-bytes`, `answered-writes-bytes`.
 use Rattle.std.specs.Prelude.{cond, List, [], ℕ, ◌/◌, ◌%◌, eqb, ℤ, length}

@@ -81,7 +81,9 @@ rows =
     ∷ []
 
 pub rows-hold : map (λ (c : Case). c.given) rows ≡ map (λ (c : Case). c.stated) rows
-unfolding list_of low_floor bytes_after reply no_room overwritten pair pair_at word word_at words words_at max_corners max_coordinate max_floor turn
+unfolding list_of low_floor bytes_after reply no_room overwritten pair pair_at word word_at words words_at max_corners max_coordinate
+    max_floor turn
     breaks precedes same_point greater shape_of value support furthest inside apart not_left on_rim touching relation_number
-    bad_count too_many outside some_outside equal_pair left_broken breaking_edge breaking_corner rule_broken broken_edge broken_corner bad_start
+    bad_count too_many outside some_outside equal_pair left_broken breaking_edge breaking_corner rule_broken broken_edge broken_corner
+    bad_start
 rows-hold = refl

@@ -70,13 +70,16 @@ rows =
     ∷ []
 
 pub rows_told : map (λ (c : Case). c.told) rows ≡ map (λ (c : Case). c.stated) rows
-unfolding low_floor reply no_room max_corners max_coordinate max_floor turn breaks precedes same_point greater shape_of value support furthest
+unfolding low_floor reply no_room max_corners max_coordinate max_floor turn breaks precedes same_point greater shape_of value support
+    furthest
     inside apart not_left on_rim touching relation_number bad_count too_many outside some_outside equal_pair left_broken breaking_edge
     breaking_corner rule_broken broken_edge broken_corner bad_start
 rows_told = refl
 
 pub rows_written : map (λ (c : Case). c.output) rows ≡ map (λ (c : Case). c.left) rows
-unfolding low_floor output overwritten no_room max_corners max_coordinate max_floor turn breaks precedes same_point greater shape_of value support
-    furthest inside apart not_left on_rim touching relation_number bad_count too_many outside some_outside equal_pair left_broken breaking_edge
+unfolding low_floor output overwritten no_room max_corners max_coordinate max_floor turn breaks precedes same_point greater shape_of value
+    support
+    furthest inside apart not_left on_rim touching relation_number bad_count too_many outside some_outside equal_pair left_broken
+    breaking_edge
     breaking_corner rule_broken broken_edge broken_corner bad_start
 rows_written = refl

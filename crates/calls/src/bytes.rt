@@ -6,7 +6,8 @@
 ghost use Rattle.std.specs.Prelude.{◌≡◌, ◌≤◌, length};
 ghost use Rattle.plane.specs.Question.{reply};
 ghost use Rattle.bytewise.specs.Packing.{packed};
-ghost use Rattle.bytewise.specs.Bytes.{ask_judge_bytes, ask_relation_bytes, ask_sum_bytes, ask_merge_bytes, bytes_after};
+ghost use Rattle.bytewise.specs.Bytes.{ask_judge_bytes, ask_relation_bytes, ask_sum_bytes, ask_merge_bytes};
+ghost use Rattle.bytewise.specs.Bytes.{bytes_after};
 ghost use Rattle.bytewise.specs.Passing.{ask_bytes, small_bytes};
 
 use crate::lent;

@@ -3,7 +3,8 @@
 ghost use Rattle.std.specs.Prelude.{◌≡◌};
 ghost use Rattle.plane.specs.Point.{point};
 ghost use Rattle.plane.specs.Floor.{on};
-ghost use Rattle.plane.specs.Question.{reply, output, ask_sum, ask_merge, ask_grow, ask_relation, ask_inside, ask_offer};
+ghost use Rattle.plane.specs.Question.{reply, output, ask_sum, ask_merge, ask_grow, ask_relation, ask_inside};
+ghost use Rattle.plane.specs.Question.{ask_offer};
 ghost use Rattle.plane.specs.Question.{ask_clearance, ask_tangents};
 ghost use Rattle.reach.specs.Greatest.{ask_greatest};
 ghost use Rattle.excess.specs.Excess.{ask_excess};

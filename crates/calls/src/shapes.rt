@@ -2,7 +2,8 @@
 ghost use Rattle.std.specs.Prelude.{◌≡◌};
 ghost use Rattle.plane.specs.Point.{point};
 ghost use Rattle.plane.specs.Floor.{on};
-ghost use Rattle.plane.specs.Question.{reply, output, ask_judge, ask_furthest, ask_mirror, ask_sweep, ask_length, ask_width};
+ghost use Rattle.plane.specs.Question.{reply, output, ask_judge, ask_furthest, ask_mirror, ask_sweep, ask_length};
+ghost use Rattle.plane.specs.Question.{ask_width};
 ghost use Rattle.area.specs.Area.{ask_area};
 ghost use Rattle.boxes.specs.Box.{ask_box};
 ghost use Rattle.wire.specs.Told.{crossed, numbers};

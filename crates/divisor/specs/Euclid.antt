@@ -6,9 +6,11 @@
 --     gcd-positive            it is positive if one of the numbers is
 --     gcd-divided             of two numbers divided by theirs it is 1
 use Rattle.std.specs.Prelude.{◌≡◌, ◌⊎◌, ℕ, zero, suc, ◌*◌, ◌/◌, ◌%◌, ◌≤◌, ◌<◌}
-use Rattle.std.proofs.Common.{sym, ◌∙◌, ap₂, subst, inl, inr, le_refl, le_trans, le_of_suc-le-suc, not-suc-le-zero, zero-lt-suc, mod-lt, mul-one}
+use Rattle.std.proofs.Common.{sym, ◌∙◌, ap₂, subst, inl, inr, le_refl, le_trans, le_of_suc-le-suc, not-suc-le-zero, zero-lt-suc, mod-lt}
+use Rattle.std.proofs.Common.{mul-one}
 use Rattle.std.specs.Int.{◌∣◌}
-use Rattle.std.proofs.Math.Nat.{eq_of_mul-eq-mul_left, dvd_refl, dvd-zero, dvd-mul_right, dvd_antisymm, dvd-mod_iff, pos_of_dvd_of_pos, mul-div_cancel', mul-dvd-mul_left, dvd_of_mul-dvd-mul_left}
+use Rattle.std.proofs.Math.Nat.{eq_of_mul-eq-mul_left, dvd_refl, dvd-zero, dvd-mul_right, dvd_antisymm, dvd-mod_iff, pos_of_dvd_of_pos}
+use Rattle.std.proofs.Math.Nat.{mul-div_cancel', mul-dvd-mul_left, dvd_of_mul-dvd-mul_left}
 use Rattle.divisor.specs.Divisor.{gcd, euclid, Gcd}
 
 pub gcd-unique : {a b g h : ℕ} → Gcd a b g → Gcd a b h → g ≡ h

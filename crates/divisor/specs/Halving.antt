@@ -6,9 +6,11 @@
 --     Halved w a b x y    the search among numbers below 2 ^ w: x and y are odd, and their divisor is that of a and b;
 --                         `halved-swap`, `halved-next`, `halved-end` are its moves; `shift_fits`, and `next-less`: it comes to an end
 use Rattle.std.specs.Prelude.{◌≡◌, refl, ℕ, zero, suc, ◌+◌, ◌-◌, ◌*◌, ◌/◌, ◌%◌, ◌^◌, ◌≤◌, ◌<◌}
-use Rattle.std.proofs.Common.{sym, ◌∙◌, ap, ap₂, subst, suc-le-suc, pow-suc, mul_comm, mul-div_cancel, div-le_self, mod-eq_of_lt, lt_of_le_of_lt, arith, pow_pos, pow-add}
+use Rattle.std.proofs.Common.{sym, ◌∙◌, ap, ap₂, subst, suc-le-suc, pow-suc, mul_comm, mul-div_cancel, div-le_self, mod-eq_of_lt}
+use Rattle.std.proofs.Common.{lt_of_le_of_lt, arith, pow_pos, pow-add}
 use Rattle.std.specs.Int.{◌∣◌}
-use Rattle.std.proofs.Math.Nat.{mod-eq-zero_of_dvd, dvd_of_mod-eq-zero, dvd_trans, dvd-mul_right, dvd-mul_right_of_dvd, dvd-add_iff_right, dvd-sub_iff_left, le_of_dvd}
+use Rattle.std.proofs.Math.Nat.{mod-eq-zero_of_dvd, dvd_of_mod-eq-zero, dvd_trans, dvd-mul_right, dvd-mul_right_of_dvd, dvd-add_iff_right}
+use Rattle.std.proofs.Math.Nat.{dvd-sub_iff_left, le_of_dvd}
 use Rattle.std.specs.Int.Count.{under, count_trailing_zeros}
 use Rattle.divisor.specs.Divisor.{gcd, Gcd}
 use Rattle.divisor.specs.Euclid.{gcd-is, gcd-unique, gcd-swap, gcd-own, gcd-scale}
@@ -22,7 +24,8 @@ unfolding count_trailing_zeros
 some-factors zero n some h = absurd (omega arith)
 some-factors (suc k) n some h = go (λ p. some-factors k (n / 2) p (omega (arith, pow-suc 2 k))) (n % 2) refl
   where
-    go : (0 < n / 2 → (count_trailing_zeros k (n / 2) < k) × (r : ℕ) × Factors (n / 2) (count_trailing_zeros k (n / 2)) r) → (d : ℕ) → n % 2 ≡ d
+    go : (0 < n / 2 → (count_trailing_zeros k (n / 2) < k) × (r : ℕ) × Factors (n / 2) (count_trailing_zeros k (n / 2)) r) → (d : ℕ) → n % 2
+        ≡ d
         → (under d (count_trailing_zeros k (n / 2)) < suc k) × (r : ℕ) × Factors n (under d (count_trailing_zeros k (n / 2))) r
     go rest zero e =
         let (fits, r, f) = rest (omega arith) in

@@ -83,8 +83,11 @@ cases =
     ∷ []
 
 pub cases-hold : map (λ (c : Case). reply (ask_drive c.log c.cart c.from c.to)) cases ≡ map (λ (c : Case). c.stated) cases
-unfolding max_corners max_coordinate same_point turn breaks precedes bad_count too_many outside some_outside equal_pair left_broken rule_broken
-    bad_start value greater support euclid gcd primitive shape_of squared root_below inside apart reply grown past entering arrival lowest safe
-    pair pair_at word word_at words words_at fixed_bytes recorded_as recorded size whole records kind name floor list wrong_length other_kind bad
+unfolding max_corners max_coordinate same_point turn breaks precedes bad_count too_many outside some_outside equal_pair left_broken
+    rule_broken
+    bad_start value greater support euclid gcd primitive shape_of squared root_below inside apart reply grown past entering arrival lowest
+    safe
+    pair pair_at word word_at words words_at fixed_bytes recorded_as recorded size whole records kind name floor list wrong_length
+    other_kind bad
     is_other is_around around grown_of is_met is_as_soon
 cases-hold = refl

@@ -10,7 +10,8 @@
 --     the log              recording a name changes no answer about two other names, and a clearance from it by at most the excess
 -- N is the new shape and O the old one; no number has a bound. A direction d is any two whole numbers, its squared length is value d d.
 -- Not promised: shapes in contact have nothing to lose; where w is up they may touch. The excess of O over N is another number.
-use Rattle.std.specs.Prelude.{◌≡◌, true, false, List, [], ◌∷◌, ◌++◌, ◌⊎◌, ◌↔◌, ℕ, ◌+◌, ◌≤◌, ◌<◌, ℤ, pos, nat_abs, ◌-ℤ◌, ◌*ℤ◌, length, ◌≤ℤ◌, ◌<ℤ◌}
+use Rattle.std.specs.Prelude.{◌≡◌, true, false, List, [], ◌∷◌, ◌++◌, ◌⊎◌, ◌↔◌, ℕ, ◌+◌, ◌≤◌, ◌<◌, ℤ, pos, nat_abs, ◌-ℤ◌, ◌*ℤ◌, length, ◌≤ℤ◌}
+use Rattle.std.specs.Prelude.{◌<ℤ◌}
 use Rattle.std.proofs.Common.{ap, ap₂}
 use Rattle.plane.specs.Point.{Point, origin, corner}
 use Rattle.plane.specs.Shape.{IsShape}

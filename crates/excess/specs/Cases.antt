@@ -63,6 +63,7 @@ cases =
 
 pub cases-hold : map (λ (c : Case). reply (ask_excess c.new c.old)) cases ≡ map (λ (c : Case). c.stated) cases
 unfolding max_corners max_coordinate same_point turn breaks precedes bad_count too_many outside some_outside equal_pair left_broken
-    rule_broken bad_start value shape_of squared edge_squared inside apart falls top bottom no_further nearest distance reply beyond no_nearer
+    rule_broken bad_start value shape_of squared edge_squared inside apart falls top bottom no_further nearest distance reply beyond
+    no_nearer
     outermost excess root_above up
 cases-hold = refl

@@ -52,8 +52,11 @@ rows =
     ∷ []
 
 pub rows-hold : map (λ (r : Case). reply (ask_gap r.log (on r.cart 3))) rows ≡ map (λ (r : Case). r.stated) rows
-unfolding max_corners max_coordinate same_point turn breaks precedes bad_count too_many outside some_outside equal_pair left_broken rule_broken
-    bad_start value greater support shape_of squared edge_squared root_below inside apart falls top bottom no_further nearest distance reply pair
-    pair_at word word_at words words_at grown fixed_bytes recorded_as recorded size whole records kind name floor list wrong_length other_kind bad
+unfolding max_corners max_coordinate same_point turn breaks precedes bad_count too_many outside some_outside equal_pair left_broken
+    rule_broken
+    bad_start value greater support shape_of squared edge_squared root_below inside apart falls top bottom no_further nearest distance reply
+    pair
+    pair_at word word_at words words_at grown fixed_bytes recorded_as recorded size whole records kind name floor list wrong_length
+    other_kind bad
     is_other is_around around grown_of gap_of
 rows-hold = refl

@@ -77,7 +77,8 @@ module _ (A B : List Point) (a : 0 < length A) (b : 0 < length B) (t : Point) wh
   cart-is-apart-outside-grown = place_inside A B a b t
 
   -- relation replies the same on any floor, where all four lists are valid
-  pub relation-replies-as-at-place : (f : ℕ) → Same (list_of (placed A t) f) (list_of B f) → Same (list_of (t ∷ []) f) (list_of (grown B A) f)
+  pub relation-replies-as-at-place : (f : ℕ) → Same (list_of (placed A t) f) (list_of B f) → Same (list_of (t ∷ []) f)
+      (list_of (grown B A) f)
       → reply (ask_relation (list_of (placed A t) f) (list_of B f)) ≡ reply (ask_relation (list_of (t ∷ []) f) (list_of (grown B A) f))
   relation-replies-as-at-place f s r = relation-replies _ _ _ _ (alike-lists (place-alike A B a b t)) refl s r
 

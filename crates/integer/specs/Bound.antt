@@ -3,7 +3,8 @@
 -- `beyond-size`: a bound as two tests. `within-le`, `within-ge` read it as two orders, `within_of` makes it of them; `within-widen` takes
 -- a larger bound. `nat_abs-*`: the size of a product; `size-square`: a number and its size have one square. `size_is`: a number that is not
 -- below 0 is its size; `positive-size`: above 0 that is not 0.
-use Rattle.std.specs.Prelude.{◌≡◌, refl, Bool, true, false, ◌||◌, ◌⊎◌, ℕ, zero, suc, ◌+◌, ◌*◌, ◌≤◌, ◌<◌, ltb, ℤ, pos, negsuc, neg_ℤ, nat_abs, ◌+ℤ◌, ◌*ℤ◌, ◌≤ℤ◌, ◌<ℤ◌}
+use Rattle.std.specs.Prelude.{◌≡◌, refl, Bool, true, false, ◌||◌, ◌⊎◌, ℕ, zero, suc, ◌+◌, ◌*◌, ◌≤◌, ◌<◌, ltb, ℤ, pos, negsuc, neg_ℤ}
+use Rattle.std.specs.Prelude.{nat_abs, ◌+ℤ◌, ◌*ℤ◌, ◌≤ℤ◌, ◌<ℤ◌}
 use Rattle.std.proofs.Common.{sym, subst, inl, inr, arith, mul-le-mul, le_trans, lt-ltb, le-ltb, ltb-true}
 use Rattle.std.specs.Int.Signed.{lt_z}
 use Rattle.integer.specs.Order.{lt_z-true, lt_z-false, lt-lt_z}

@@ -1,12 +1,13 @@
--- ℤ is a commutative ring: the laws that the kit's `lib.IntN` leaves out.
+-- ℤ is a commutative ring: the laws that the kit's `Rattle.std.proofs.Math.IntN` leaves out.
 --     *ℤ-distrib-r, *ℤ-distrib-l    the product over a sum
 --     *ℤ-assoc                      the product regrouped
 --     negℤ-*ℤ                       a sign moves out of a product
 --     +ℤ-swap                       the middle two of four summands change places
--- The group laws of the sum, and that the product is commutative, are in `lib.IntN`.
+-- The group laws of the sum, and that the product is commutative, are in `Rattle.std.proofs.Math.IntN`.
 use Rattle.std.specs.Prelude.{◌≡◌, zero, suc, ℤ, pos, negsuc, neg_ℤ, ◌+ℤ◌, ◌-ℤ◌, ◌*ℤ◌}
 use Rattle.std.proofs.Common.{sym, ◌∙◌, ap, ap₂}
-use Rattle.std.proofs.Math.IntN.{suc_ℤ, pred_ℤ, +ℤ_assoc, +ℤ_comm, +ℤ_idl, +ℤ_idr, +ℤ_invl, +ℤ_invr, suc_ℤ-+ℤ, pred_ℤ-+ℤ, suc_ℤ-*ℤ, pred_ℤ-*ℤ, zero-*ℤ, *ℤ_comm}
+use Rattle.std.proofs.Math.IntN.{suc_ℤ, pred_ℤ, +ℤ_assoc, +ℤ_comm, +ℤ_idl, +ℤ_idr, +ℤ_invl, +ℤ_invr, suc_ℤ-+ℤ, pred_ℤ-+ℤ, suc_ℤ-*ℤ}
+use Rattle.std.proofs.Math.IntN.{pred_ℤ-*ℤ, zero-*ℤ, *ℤ_comm}
 
 -- what holds of 0 and is kept by one more and one less holds of every integer
 pub ℤ-step : (P : ℤ → Type 0) → P (pos 0) → ((z : ℤ) → P z → P (suc_ℤ z)) → ((z : ℤ) → P z → P (pred_ℤ z)) → (z : ℤ) → P z

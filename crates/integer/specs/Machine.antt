@@ -1,10 +1,11 @@
 -- Signed machine terms. Each operation reads its operands back from their bits, `to_z w (of_z w x)`; what is asked of it is that the result
 -- fits, and what is known of it is its mathematical value. A term is taken apart once, by `search machine`, and both come in one line:
---     machine-fits (search machine depth 40) tt       what a need `SFits w term` asks
+--     machine-fits (search machine depth 40) tt       what a goal `SFits w term` asks
 --     machine-is (search machine depth 40) tt         term ≡ its value, with every reading back gone
 -- The numbers in the term are hypotheses of type `Machine x`: `known e h` for a call's result x with e : x ≡ v and h : Within n v,
 -- `bounded h` for h : Within n x.
-use Rattle.std.specs.Prelude.{◌≡◌, refl, Bool, true, false, ◌&&◌, ℕ, suc, ◌+◌, ◌*◌, ◌^◌, ◌≤◌, ◌<◌, T, ltb, ℤ, pos, negsuc, neg_ℤ, nat_abs, ◌+ℤ◌, ◌-ℤ◌, ◌*ℤ◌}
+use Rattle.std.specs.Prelude.{◌≡◌, refl, Bool, true, false, ◌&&◌, ℕ, suc, ◌+◌, ◌*◌, ◌^◌, ◌≤◌, ◌<◌, T, ltb, ℤ, pos, negsuc, neg_ℤ, nat_abs}
+use Rattle.std.specs.Prelude.{◌+ℤ◌, ◌-ℤ◌, ◌*ℤ◌}
 use Rattle.std.proofs.Common.{sym, ◌∙◌, ap, ap₂, subst, le_refl, le_trans, lt_of_le_of_lt, ltb→lt, to_z-of_z}
 use Rattle.std.proofs.Math.Nat.{le-suc}
 use Rattle.std.specs.Int.Signed.{mag}

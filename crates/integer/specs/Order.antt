@@ -1,13 +1,14 @@
 -- The order of ℤ beyond what linear arithmetic knows: products of facts, proof by the contrary, tests read as facts.
---     _<×<_ _<×≤_ _≤×<_ _≤×≤_     the product of two differences of known sign, as a hint to `lia`
---     _≡×_                        an equation times a number, likewise
+--     ◌<×<◌ ◌<×≤◌ ◌≤×<◌ ◌≤×≤◌     the product of two differences of known sign, as a hint to `lia`
+--     ◌≡×◌                        an equation times a number, likewise
 --     square-nonneg, square-zero  a square is not below 0; only 0 has a square that is not above it
 --     cancel-le, cancel           a positive factor may be dropped; `zero-factor`: from a product that is 0
 --     contra< contra≤             a strict (weak) order, from the absurdity of the contrary
 --     lt-or-le, compared          cases
 --     weaken, le_of_eq, le_trans, le_antisym      weak orders by name, where no atom need be written
 --     lt_z-true .. le_z-false       what a test that came out so says; `lt-lt_z` .. the other way
-use Rattle.std.specs.Prelude.{◌≡◌, refl, Bool, true, false, not, [], ◌∷◌, ◌⊎◌, zero, suc, ◌*◌, T, ℤ, pos, negsuc, ◌+ℤ◌, ◌-ℤ◌, ◌*ℤ◌, ◌≤ℤ◌, ◌<ℤ◌}
+use Rattle.std.specs.Prelude.{◌≡◌, refl, Bool, true, false, not, [], ◌∷◌, ◌⊎◌, zero, suc, ◌*◌, T, ℤ, pos, negsuc, ◌+ℤ◌, ◌-ℤ◌, ◌*ℤ◌, ◌≤ℤ◌}
+use Rattle.std.specs.Prelude.{◌<ℤ◌}
 use Rattle.std.proofs.Common.{sym, ap, subst, inl, inr, zero-le, mul-pos, arith, T_not, le→leb, lt→ltb}
 use Rattle.std.specs.Int.Signed.{le_z, lt_z, lt_z_no, clash_ℤ}
 use Rattle.integer.specs.Linear.{linear, lia, ◌&◌}

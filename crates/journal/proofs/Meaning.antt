@@ -6,7 +6,8 @@
 --     adding        the table, in its order; a refused, a finished and a cut addition; allowances; whatever is torn after the end
 --     histories     the whole claim: reading gives for each name the last finished addition, and 15 does not come; from a new log, and
 --                   from any log without a bad record, so from one of kind 1 as well
-use Rattle.std.specs.Prelude.{◌≡◌, true, false, cond, List, [], ◌∷◌, ◌++◌, ℕ, suc, ◌+◌, ◌*◌, ◌-◌, ◌≤◌, ◌<◌, eqb, leb, length, get_or, take, drop, set, replicate, ℤ, pos}
+use Rattle.std.specs.Prelude.{◌≡◌, true, false, cond, List, [], ◌∷◌, ◌++◌, ℕ, suc, ◌+◌, ◌*◌, ◌-◌, ◌≤◌, ◌<◌, eqb, leb, length, get_or, take}
+use Rattle.std.specs.Prelude.{drop, set, replicate, ℤ, pos}
 use Rattle.std.proofs.Common.{ap}
 use Rattle.plane.specs.Point.{points}
 use Rattle.plane.specs.Reply.{answered, refused, Row, NoneApply, First}

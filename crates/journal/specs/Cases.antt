@@ -101,7 +101,8 @@ readings =
 
 pub readings-hold : map (λ (r : Read). r.given) readings ≡ map (λ (r : Read). r.stated) readings
 unfolding pair_at word_at words_at fixed_bytes size whole records kind name floor list wrong_length other_kind bad reply output bad_count
-    too_many outside some_outside equal_pair left_broken rule_broken bad_start breaks precedes max_corners max_coordinate no_room overwritten
+    too_many outside some_outside equal_pair left_broken rule_broken bad_start breaks precedes max_corners max_coordinate no_room
+    overwritten
 readings-hold = refl
 
 -- ---- adding
@@ -140,7 +141,9 @@ additions =
     ∷ []
 
 pub additions-hold : map (λ (s : Step). s.given) additions ≡ map (λ (s : Step). s.stated) additions
-unfolding pair pair_at word words word_at words_at fixed_bytes recorded_as recorded size whole records kind name floor list wrong_length other_kind
-    bad end stores add_reply added reply bad_count too_many outside some_outside equal_pair left_broken rule_broken bad_start breaks precedes
+unfolding pair pair_at word words word_at words_at fixed_bytes recorded_as recorded size whole records kind name floor list wrong_length
+    other_kind
+    bad end stores add_reply added reply bad_count too_many outside some_outside equal_pair left_broken rule_broken bad_start breaks
+    precedes
     max_corners max_coordinate
 additions-hold = refl

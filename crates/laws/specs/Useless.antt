@@ -9,7 +9,8 @@ use Rattle.plane.specs.Point.{same_point}
 use Rattle.plane.specs.Turn.{turn}
 use Rattle.plane.specs.Shape.{breaks, precedes}
 use Rattle.plane.specs.Reply.{answered, refused}
-use Rattle.plane.specs.Refusal.{bad_count, too_many, outside, some_outside, equal_pair, left_broken, breaking_edge, breaking_corner, rule_broken}
+use Rattle.plane.specs.Refusal.{bad_count, too_many, outside, some_outside, equal_pair, left_broken, breaking_edge, breaking_corner}
+use Rattle.plane.specs.Refusal.{rule_broken}
 use Rattle.plane.specs.Refusal.{broken_edge, broken_corner, bad_start}
 use Rattle.plane.specs.Corner.{shape_of, sums}
 use Rattle.plane.specs.Output.{Written, no_room, overwritten}
@@ -40,7 +41,8 @@ five_corners = record {
 
 pub square-plus-triangle : sum_call square triangle room ≡ five_corners
 unfolding reply output shape_of overwritten no_room max_corners max_coordinate turn breaks precedes same_point
-    bad_count too_many outside some_outside equal_pair left_broken breaking_edge breaking_corner rule_broken broken_edge broken_corner bad_start
+    bad_count too_many outside some_outside equal_pair left_broken breaking_edge breaking_corner rule_broken broken_edge broken_corner
+    bad_start
 square-plus-triangle = refl
 
 module _ (call : Call) (promised : Promised call) where

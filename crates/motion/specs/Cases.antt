@@ -79,6 +79,7 @@ cases =
 pub cases-hold :
     map (λ (c : Case). reply (ask_contact c.obstacle c.cart c.from c.to)) cases ≡ map (λ (c : Case). c.stated) cases
 unfolding max_corners max_coordinate same_point turn breaks precedes bad_count too_many outside some_outside equal_pair left_broken
-    rule_broken bad_start value greater support euclid gcd primitive shape_of squared root_below inside apart reply grown past entering arrival
+    rule_broken bad_start value greater support euclid gcd primitive shape_of squared root_below inside apart reply grown past entering
+    arrival
     lowest safe
 cases-hold = refl

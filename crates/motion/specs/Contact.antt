@@ -20,7 +20,8 @@
 --     arrival t u G      the last entry of all walls; edge_arrival t u G: of the edges alone
 --     lowest f           f in lowest terms
 -- What it means: `Meaning.antt`.
-use Rattle.std.specs.Prelude.{◌≡◌, Bool, false, not, cond, List, [], ◌∷◌, map, ℕ, zero, suc, ◌+◌, ◌*◌, ℤ, pos, negsuc, nat_abs, ◌-ℤ◌, ◌*ℤ◌, length, ◌≤ℤ◌, ◌<ℤ◌}
+use Rattle.std.specs.Prelude.{◌≡◌, Bool, false, not, cond, List, [], ◌∷◌, map, ℕ, zero, suc, ◌+◌, ◌*◌, ℤ, pos, negsuc, nat_abs, ◌-ℤ◌, ◌*ℤ◌}
+use Rattle.std.specs.Prelude.{length, ◌≤ℤ◌, ◌<ℤ◌}
 use Rattle.std.specs.Int.Signed.{le_z}
 use Rattle.plane.specs.Point.{Point, point, corner, ◌⊕◌}
 use Rattle.plane.specs.Reply.{Row, row}

@@ -61,8 +61,10 @@ cases =
     ∷ []
 
 pub cases-hold : map (λ (c : Case). c.given) cases ≡ map (λ (c : Case). c.stated) cases
-unfolding pair pair_at word words word_at words_at fixed_bytes recorded_as recorded size whole records kind name floor list wrong_length other_kind
-    bad reply bad_count too_many outside some_outside equal_pair left_broken rule_broken bad_start breaks precedes max_corners max_coordinate turn
+unfolding pair pair_at word words word_at words_at fixed_bytes recorded_as recorded size whole records kind name floor list wrong_length
+    other_kind
+    bad reply bad_count too_many outside some_outside equal_pair left_broken rule_broken bad_start breaks precedes max_corners
+    max_coordinate turn
     same_point value greater support squared edge_squared root_below shape_of inside apart falls top bottom no_further nearest distance
     is_other is_around around is_as_near
 cases-hold = refl

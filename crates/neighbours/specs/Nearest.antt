@@ -3,7 +3,8 @@
 --     is_as_near A r s               the shape of r is no further from A than that of s, as exact fractions
 --     nearest_of A r rs             the first of the least of r and rs
 --     nearest_numbers A rs          its name, and what clearance answers of A and that shape; nothing if there are no records
---     ask_nearest b l f but         the nearest to the shape l of the current shapes on floor f, the name `but` left out. Refused 1 to 5 and
+--     ask_nearest b l f but         the nearest to the shape l of the current shapes on floor f, the name `but` left out. Refused 1 to 5
+-- and
 --                                  15; then 20 if there is none
 -- What it means: `Meaning.antt`.
 use Rattle.std.specs.Prelude.{Bool, List, [], ◌∷◌, ℕ, ℤ, pos}

@@ -7,7 +7,8 @@
 --     faces          the furthest corners of a shape, from the first to the last counterclockwise
 --     names          of all directions that point one way, 11 and 12 let exactly one pass; 12 is a common divisor above 1
 --     mirror, sweep  refusals 6 and 7 cannot come of them
-use Rattle.std.specs.Prelude.{◌≡◌, refl, true, false, List, [], ◌∷◌, ◌++◌, ◌⊎◌, ◌↔◌, ℕ, ◌≤◌, ◌<◌, length, drop, ℤ, pos, ◌+ℤ◌, ◌*ℤ◌, ◌≤ℤ◌, ◌<ℤ◌}
+use Rattle.std.specs.Prelude.{◌≡◌, refl, true, false, List, [], ◌∷◌, ◌++◌, ◌⊎◌, ◌↔◌, ℕ, ◌≤◌, ◌<◌, length, drop, ℤ, pos, ◌+ℤ◌, ◌*ℤ◌, ◌≤ℤ◌}
+use Rattle.std.specs.Prelude.{◌<ℤ◌}
 use Rattle.std.proofs.Common.{sym}
 use Rattle.integer.specs.Bound.{Within}
 use Rattle.plane.specs.Cut.{cut_sum}

@@ -204,7 +204,8 @@ rows =
 
 pub rows-hold : map (λ (r : Case). r.given) rows ≡ map (λ (r : Case). r.stated) rows
 unfolding rows max_corners max_coordinate max_points max_part turn breaks precedes same_point greater shape_of
-    bad_count too_many outside some_outside equal_pair left_broken breaking_edge breaking_corner rule_broken broken_edge broken_corner bad_start
+    bad_count too_many outside some_outside equal_pair left_broken breaking_edge breaking_corner rule_broken broken_edge broken_corner
+    bad_start
     no_room overwritten too_many_points squared length_squared furthest_pair length_from length_to
     edge_turn height edge_squared no_wider width_edge width_corner root_below
     inside apart not_left on_rim touching relation_number on_side touches nearer tangent tangent_from tangent_to

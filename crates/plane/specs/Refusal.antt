@@ -3,7 +3,8 @@
 --     InRange l            "each coordinate from -1,000,000 to 1,000,000"
 --     Valid l              l meets all that stands under "What makes a shape"
 -- What it means: `valid→accepted`, `accepted→valid`.
-use Rattle.std.specs.Prelude.{Bool, false, cond, ◌&&◌, ◌||◌, List, [], ◌∷◌, ◌≡◌, ℕ, ◌%◌, ◌≤◌, ◌<◌, eqb, ltb, length, get_or, ℤ, pos, nat_abs}
+use Rattle.std.specs.Prelude.{Bool, false, cond, ◌&&◌, ◌||◌, List, [], ◌∷◌, ◌≡◌, ℕ, ◌%◌, ◌≤◌, ◌<◌, eqb, ltb, length, get_or, ℤ, pos}
+use Rattle.std.specs.Prelude.{nat_abs}
 use Rattle.integer.specs.Bound.{Within}
 use Rattle.plane.specs.Limits.{max_corners, max_coordinate}
 use Rattle.plane.specs.Point.{Point, points, corner, same_point}

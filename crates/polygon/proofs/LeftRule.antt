@@ -21,7 +21,8 @@ module _ (ps : List Point) where
   pub left-break-nowhere : left_broken ps ≡ false → Nowhere ≡ left_break ps
   left-break-nowhere h = ap (λ b. cond b (At (breaking_edge ps) (breaking_corner ps)) Nowhere) (sym h)
 
-  pub left-break-at : (e c : ℕ) → left_broken ps ≡ true → breaking_edge ps ≡ e → first (breaks ps e) (length ps) ≡ c → At e c ≡ left_break ps
+  pub left-break-at : (e c : ℕ) → left_broken ps ≡ true → breaking_edge ps ≡ e → first (breaks ps e) (length ps) ≡ c → At e c ≡ left_break
+      ps
   unfolding breaking_corner
   left-break-at e c h p q =
       ap₂ At (sym p) (sym q ∙ ap (λ k. first (breaks ps k) (length ps)) (sym p))

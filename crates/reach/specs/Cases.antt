@@ -7,7 +7,8 @@ use Rattle.plane.specs.Shape.{breaks, precedes}
 use Rattle.plane.specs.Direction.{greater}
 use Rattle.plane.specs.Measure.{squared}
 use Rattle.plane.specs.Reply.{Reply, answered, refused}
-use Rattle.plane.specs.Refusal.{bad_count, too_many, outside, some_outside, equal_pair, left_broken, rule_broken, broken_edge, broken_corner}
+use Rattle.plane.specs.Refusal.{bad_count, too_many, outside, some_outside, equal_pair, left_broken, rule_broken, broken_edge}
+use Rattle.plane.specs.Refusal.{broken_corner}
 use Rattle.plane.specs.Refusal.{breaking_edge, breaking_corner, bad_start}
 use Rattle.plane.specs.Floor.{Floored, on}
 use Rattle.plane.specs.Question.{reply}
@@ -51,6 +52,8 @@ cases =
     ∷ []
 
 pub cases-hold : map (λ (c : Case). reply (ask_greatest c.one c.other)) cases ≡ map (λ (c : Case). c.stated) cases
-unfolding max_corners max_coordinate same_point turn greater breaks precedes squared bad_count too_many outside some_outside equal_pair left_broken
-    rule_broken broken_edge broken_corner breaking_edge breaking_corner bad_start greatest_squared furthest_apart greatest_first greatest_second reply
+unfolding max_corners max_coordinate same_point turn greater breaks precedes squared bad_count too_many outside some_outside equal_pair
+    left_broken
+    rule_broken broken_edge broken_corner breaking_edge breaking_corner bad_start greatest_squared furthest_apart greatest_first
+    greatest_second reply
 cases-hold = refl

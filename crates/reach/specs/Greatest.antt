@@ -1,6 +1,7 @@
 -- The greatest distance of a point of one shape and a point of another (000, 2.3; 003, 3), by comparing all pairs of corners: no two points
 -- are further apart than some two corners. Our own question, not of documents 01 and 02. It is said as length is (`Measure.antt` of plane).
---     greatest_squared A B     the greatest squared distance of a corner of A and a corner of B, had at positions greatest_first A B of A and
+--     greatest_squared A B     the greatest squared distance of a corner of A and a corner of B, had at positions greatest_first A B of A
+-- and
 --                             greatest_second A B of B
 --     furthest_apart A B i j   corner i of A and corner j of B are that far apart
 --     greatest_numbers A B     what is answered; ask_greatest a b: the question

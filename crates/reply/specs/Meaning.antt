@@ -28,7 +28,8 @@ use Rattle.answers.specs.declared.Greatest.{Greatest}
 use Rattle.answers.specs.Answer.{of_drive, of_greatest}
 use Rattle.answers.specs.Answer.{of_area, of_box, of_nearest, of_gap, of_contact, of_entry}
 use Rattle.answers.specs.Answer.{of_refusal, of_unread, of_answer, of_furthest, of_length, of_width, of_relation}
-use Rattle.answers.specs.Answer.{of_inside, of_offer, of_separator, of_clearance, of_excess, of_passage, of_tangents, of_tablet, of_addition}
+use Rattle.answers.specs.Answer.{of_inside, of_offer, of_separator, of_clearance, of_excess, of_passage, of_tangents, of_tablet}
+use Rattle.answers.specs.Answer.{of_addition}
 use Rattle.wire.specs.Heard.{Room}
 use Rattle.reply.specs.theory.Roomy as room
 use Rattle.part_questions.specs.Answer.{of_begun, of_part}

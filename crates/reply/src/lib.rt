@@ -7,8 +7,10 @@ ghost use Rattle.plane.specs.Reply.{answered};
 ghost use Rattle.clearance.specs.Answer.{values_of};
 ghost use Rattle.part_questions.specs.Answer.{of_begun, of_part};
 ghost use Rattle.answers.specs.Answer.{of_answer, of_furthest, of_length};
-ghost use Rattle.answers.specs.Answer.{of_width, of_relation, of_inside, of_offer, of_separator, of_clearance, of_tangents};
-ghost use Rattle.answers.specs.Answer.{of_area, of_excess, of_nearest, of_gap, of_contact, of_drive, of_passage, of_tablet};
+ghost use Rattle.answers.specs.Answer.{of_width, of_relation, of_inside, of_offer, of_separator, of_clearance};
+ghost use Rattle.answers.specs.Answer.{of_tangents};
+ghost use Rattle.answers.specs.Answer.{of_area, of_excess, of_nearest, of_gap, of_contact, of_drive, of_passage};
+ghost use Rattle.answers.specs.Answer.{of_tablet};
 ghost use Rattle.answers.specs.Answer.{of_addition, of_entry, of_greatest, of_box};
 ghost use Rattle.wire.specs.Told.{crossed, numbers};
 

@@ -13,7 +13,8 @@
 --     ring_rows l out    these; 4, with the position in the list of the corner before and of the corner that turns in; 8
 --     ask_ring a out     the question
 -- What it means: `Meaning.antt`.
-use Rattle.std.specs.Prelude.{◌≡◌, Bool, not, cond, ◌&&◌, ◌||◌, List, [], ◌∷◌, ◌++◌, map, ℕ, zero, suc, ◌-◌, ◌%◌, ◌≤◌, ◌<◌, eqb, ltb, ℤ, pos, length, get_or}
+use Rattle.std.specs.Prelude.{◌≡◌, Bool, not, cond, ◌&&◌, ◌||◌, List, [], ◌∷◌, ◌++◌, map, ℕ, zero, suc, ◌-◌, ◌%◌, ◌≤◌, ◌<◌, eqb, ltb, ℤ}
+use Rattle.std.specs.Prelude.{pos, length, get_or}
 use Rattle.std.specs.Int.Signed.{lt_z}
 use Rattle.plane.specs.Limits.{max_points}
 use Rattle.plane.specs.Point.{Point, points, corner}

@@ -8,7 +8,8 @@ mod sweeping;
 ghost use Rattle.std.specs.Prelude.{◌≡◌, ◌<◌, length};
 ghost use Rattle.plane.specs.Point.{point};
 ghost use Rattle.plane.specs.Floor.{on};
-ghost use Rattle.plane.specs.Question.{reply, output, ask_judge, ask_furthest, ask_mirror, ask_sweep, ask_length, ask_width};
+ghost use Rattle.plane.specs.Question.{reply, output, ask_judge, ask_furthest, ask_mirror, ask_sweep, ask_length};
+ghost use Rattle.plane.specs.Question.{ask_width};
 ghost use Rattle.answers.specs.Answer.{of_answer, of_furthest, of_length, of_width, of_area};
 ghost use Rattle.area.specs.Area.{ask_area};
 

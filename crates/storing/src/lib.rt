@@ -2,7 +2,8 @@
 // `questions`. The definitions are those of the crate `journal`.
 #![tactic(auto)]
 
-ghost use Rattle.std.specs.Prelude.{true, ◌≡◌, [], ◌∷◌, ℕ, ◌+◌, ◌*◌, ◌-◌, ◌≤◌, ◌<◌, leb, ltb, length, take, drop, get_or};
+ghost use Rattle.std.specs.Prelude.{true, ◌≡◌, [], ◌∷◌, ℕ, ◌+◌, ◌*◌, ◌-◌, ◌≤◌, ◌<◌, leb, ltb, length, take, drop};
+ghost use Rattle.std.specs.Prelude.{get_or};
 ghost use Rattle.endian.specs.Bytes.{pair as bytes_pair, word as bytes_word, words as bytes_words};
 ghost use Rattle.journal.specs.Format.{recorded};
 ghost use Rattle.journal.specs.Adding.{clears, writes, stores, made, end as adding_end};

@@ -90,7 +90,8 @@ module _ (x y : Reading) where
   read-corner-is-accepted m n h k = read-corner x y m n h k
 
   -- "Send each accepted corner back as a pair of doubles"; a refusal "gives nothing else"
-  pub accepted-corner-sent-back : (m n : ℤ) → tablet_reply x y ≡ answered (m ∷ n ∷ []) → (tablet_sent x y).doubles ≡ holding m ∷ holding n ∷ []
+  pub accepted-corner-sent-back : (m n : ℤ) → tablet_reply x y ≡ answered (m ∷ n ∷ []) → (tablet_sent x y).doubles ≡ holding m ∷ holding n ∷
+      []
   accepted-corner-sent-back m n h = ap sent_back h
 
   pub refused-corner-sends-nothing : (n : ℕ) (carries : List ℕ) → tablet_reply x y ≡ refused n carries → (tablet_sent x y).doubles ≡ []

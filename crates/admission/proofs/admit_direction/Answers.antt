@@ -30,7 +30,8 @@ pub returns-then-bad_direction : goal.returns-then-bad_direction
 returns-then-bad_direction c = turns-away (refuses (here (sym (bad-is c.before) ∙ c.if-bad_direction.true)))
 
 pub returns-then-common_divisor : goal.returns-then-common_divisor
-returns-then-common_divisor c = turns-away (refuses (later (row-11 c.before.before) (here (sym (common-is c.before) ∙ c.if-common_divisor.true))))
+returns-then-common_divisor c = turns-away
+    (refuses (later (row-11 c.before.before) (here (sym (common-is c.before) ∙ c.if-common_divisor.true))))
 
 pub returns : goal.returns
 returns c = passes (row-11 c.before.before, (sym (common-is c.before) ∙ c.if-common_divisor.false, tt))

@@ -23,7 +23,8 @@ pub returns-then-bad_count : goal.returns-then-bad_count
 returns-then-bad_count c = turns-away (refuses (here (sym c.bad_count.ensures ∙ c.if-bad_count.true)))
 
 pub returns-then-too_many_points : goal.returns-then-too_many_points
-returns-then-too_many_points c = turns-away (refuses (later (row-1 c.before.before) (here (sym c.too_many_points.ensures ∙ c.if-too_many_points.true))))
+returns-then-too_many_points c = turns-away
+    (refuses (later (row-1 c.before.before) (here (sym c.too_many_points.ensures ∙ c.if-too_many_points.true))))
 
 pub returns-then-some_outside : goal.returns-then-some_outside
 returns-then-some_outside c =
@@ -32,4 +33,5 @@ returns-then-some_outside c =
 
 pub returns : goal.returns
 returns c =
-    passes (accepted→points _ (row-1 c.before.before.before.before, (row-2 c.before.before, (sym c.some_outside.ensures ∙ c.if-some_outside.false, tt))))
+    passes (accepted→points _
+    (row-1 c.before.before.before.before, (row-2 c.before.before, (sym c.some_outside.ensures ∙ c.if-some_outside.false, tt))))

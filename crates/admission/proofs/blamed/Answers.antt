@@ -48,16 +48,28 @@ returns-in-At c =
     let found = broken-found _ _ _ (sym c.first_broken.ensures ∙ c.in-At.is) in
     turns-away (record {
       by = _;
-      first = later (row-1 (goal.at.returns-in-At c).Else-bad_count) (later (row-2 (goal.at.returns-in-At c).Else-too_many) (later (row-3 (goal.at.returns-in-At c).Else-some_outside) (here found.0)));
+      first = later (row-1 (goal.at.returns-in-At c).Else-bad_count)
+          (later (row-2 (goal.at.returns-in-At c).Else-too_many)
+          (later (row-3 (goal.at.returns-in-At c).Else-some_outside) (here found.0)));
       is = ap₂ (λ (e k : ℕ). refused 4 (c.args.shape ∷ e ∷ k ∷ [])) (sym found.1) (sym found.2);
     })
 
 pub returns-then-bad_start : goal.returns-then-bad_start
 returns-then-bad_start c =
-    turns-away (refuses (later (row-1 (goal.at.returns-then-bad_start c).Else-bad_count) (later (row-2 (goal.at.returns-then-bad_start c).Else-too_many) (later (row-3 (goal.at.returns-then-bad_start c).Else-some_outside) (later (row-4 (goal.at.returns-then-bad_start c).In_default)
+    turns-away (refuses (later (row-1 (goal.at.returns-then-bad_start c).Else-bad_count)
+    (later (row-2 (goal.at.returns-then-bad_start c).Else-too_many)
+    (later (row-3 (goal.at.returns-then-bad_start c).Else-some_outside) (later (row-4 (goal.at.returns-then-bad_start c).In_default)
     (here (sym c.bad_start.ensures ∙ c.if-bad_start.true)))))))
 
 pub returns : goal.returns
 returns c =
-    passes (accepted→valid _ c.args.shape
-    (row-1 (goal.at.returns c).Else-bad_count, (row-2 (goal.at.returns c).Else-too_many, (row-3 (goal.at.returns c).Else-some_outside, (row-4 (goal.at.returns c).In_default, (sym c.bad_start.ensures ∙ c.if-bad_start.false, tt))))))
+    passes (accepted→valid _ c.args.shape (
+      row-1 (goal.at.returns c).Else-bad_count,
+      (
+        row-2 (goal.at.returns c).Else-too_many,
+        (
+          row-3 (goal.at.returns c).Else-some_outside,
+          (row-4 (goal.at.returns c).In_default, (sym c.bad_start.ensures ∙ c.if-bad_start.false, tt)),
+        ),
+      ),
+    ))

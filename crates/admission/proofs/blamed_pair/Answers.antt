@@ -40,4 +40,5 @@ returns-in-No-blamed c =
 
 pub returns : goal.returns
 returns c =
-    then-floors (one (goal.at.returns c).Start) (other (goal.at.returns c).Start) (first (goal.at.returns c).In_default) (second (goal.at.returns c).In_default-blamed) c.admit_floors.ensures
+    then-floors (one (goal.at.returns c).Start) (other (goal.at.returns c).Start) (first (goal.at.returns c).In_default)
+    (second (goal.at.returns c).In_default-blamed) c.admit_floors.ensures

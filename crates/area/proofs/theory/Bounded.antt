@@ -32,7 +32,8 @@ abbrev square : List Point
 square = points square_list
 
 square-valid : Valid square_list
-unfolding max_corners max_coordinate same_point turn breaks precedes bad_count too_many outside some_outside equal_pair left_broken rule_broken
+unfolding max_corners max_coordinate same_point turn breaks precedes bad_count too_many outside some_outside equal_pair left_broken
+    rule_broken
     bad_start
 square-valid = none→admitted (one_shape (on square_list 0)) (refl, (refl, (refl, (refl, (refl, tt)))))
 

@@ -5,7 +5,8 @@
 --     merged-first, merged-second   a merge has at least the area of each of its shapes
 --     crosses-append, area-turned   the corners may be begun anywhere
 --     mirrored-area, moved-area     mirroring and moving change nothing
-use Rattle.std.specs.Prelude.{◌≡◌, refl, Bool, true, false, List, [], ◌∷◌, ◌++◌, map, ℕ, suc, ◌<◌, ◌≤◌, ℤ, pos, neg_ℤ, ◌+ℤ◌, ◌-ℤ◌, length, take, drop, ltb, ◌≤ℤ◌, ◌<ℤ◌}
+use Rattle.std.specs.Prelude.{◌≡◌, refl, Bool, true, false, List, [], ◌∷◌, ◌++◌, map, ℕ, suc, ◌<◌, ◌≤◌, ℤ, pos, neg_ℤ, ◌+ℤ◌, ◌-ℤ◌, length}
+use Rattle.std.specs.Prelude.{take, drop, ltb, ◌≤ℤ◌, ◌<ℤ◌}
 use Rattle.std.proofs.Common.{sym, ◌∙◌, ap, ap₂, subst, append-nil, arith, length-append, take-append-drop, ltb-true, ltb-false}
 use mathlib.Core.List.Memᴰ
 use Rattle.std.specs.Int.Signed.{<ℤ_irrefl}

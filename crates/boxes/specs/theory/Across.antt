@@ -37,7 +37,8 @@ module _ (ps : List Point) (s : IsShape ps) (three : 2 < length ps) where
   across-no-smaller n e h level some =
       let best = half_round ps (box_edge ps) in
       let half = half_round ps e in
-      fraction-trans (best *ℤ best) (half *ℤ half) (around n ps *ℤ around n ps) (edge_squared ps (box_edge ps)) (edge_squared ps e) (value n n)
+      fraction-trans (best *ℤ best) (half *ℤ half) (around n ps *ℤ around n ps) (edge_squared ps (box_edge ps)) (edge_squared ps e)
+      (value n n)
       best-long long some (no_larger-le ps (box_edge ps) e ((box-leading ps s three).least e h))
       (rw (← around-edge ps s e h, ← out-squared ps s e h)
       (parallel-around ps s.some (out_of ps e) n level (rw (out-squared ps s e h) long)))

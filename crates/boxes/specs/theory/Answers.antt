@@ -66,7 +66,8 @@ module _ (a : Floored) (e : ℕ) (t s q : ℤ) (h : reply (ask_box a) ≡ answer
 
   pub answered-attains : (spread (out_of ps e) ps ≡ t) × (spread (edge_of ps e) ps ≡ s) × (value (edge_of ps e) (edge_of ps e) ≡ q)
   unfolding along
-  answered-attains = rw (edge, turn, side, long) (out-spread ps shape (box_edge ps) best-in, refl, sym (edge_squared-value ps (box_edge ps)))
+  answered-attains = rw (edge, turn, side, long)
+      (out-spread ps shape (box_edge ps) best-in, refl, sym (edge_squared-value ps (box_edge ps)))
 
   pub answered-fraction : pos 0 <ℤ q
   answered-fraction = rw long (best-long ps shape three)

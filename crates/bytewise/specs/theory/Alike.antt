@@ -2,7 +2,8 @@
 --     cut-alike       the numbers that are read of bytes; `none_alike`: of bytes that hold no list
 --     one-packed      the reply to a question about one list, packed, is that about the other
 --     pair-packed     the same of two lists; `pair-reply`, `pair-bytes`: the reply itself, and what becomes of the output bytes
-use Rattle.std.specs.Prelude.{◌≡◌, refl, Bool, true, false, cond, ◌||◌, List, [], ◌∷◌, ◌++◌, ℕ, ◌+◌, ◌*◌, ◌/◌, ◌%◌, ◌≤◌, eqb, ltb, ℤ, length}
+use Rattle.std.specs.Prelude.{◌≡◌, refl, Bool, true, false, cond, ◌||◌, List, [], ◌∷◌, ◌++◌, ℕ, ◌+◌, ◌*◌, ◌/◌, ◌%◌, ◌≤◌, eqb, ltb, ℤ}
+use Rattle.std.specs.Prelude.{length}
 use Rattle.std.proofs.Common.{sym, ◌∙◌, ap, ap₂, subst, arith, ltb-true, ltb-false, lt-ltb, eq-eqb, ne_eqb, eqb-true}
 use Rattle.std.proofs.lemmas.Bool.{eqb-false}
 use Rattle.plane.specs.Limits.{max_corners}
@@ -54,7 +55,8 @@ pub cut-alike : (bs : List ℕ) (r : ℕ) → length bs % 4 ≡ 0 → Cut (lengt
 unfolding list_of
 cut-alike bs r h c =
     subst (λ (l : List ℤ). Alike l (words_at r bs 0))
-    (sym (ap (λ (b : Bool). cond b (words_at (length bs / 4) bs 0) []) (eq-eqb (length bs % 4) 0 h))) (go (ltb r (2 + 2 * max_corners)) refl)
+    (sym (ap (λ (b : Bool). cond b (words_at (length bs / 4) bs 0) []) (eq-eqb (length bs % 4) 0 h)))
+    (go (ltb r (2 + 2 * max_corners)) refl)
   where
     go : (b : Bool) → ltb r (2 + 2 * max_corners) ≡ b → Alike (words_at (length bs / 4) bs 0) (words_at r bs 0)
     go true e = equal (ap (λ (k : ℕ). words_at k bs 0) (c.whole (ltb-true r (2 + 2 * max_corners) e)))

@@ -72,7 +72,8 @@ row-4 which h ps few r k = fits-row (row 4 (rule_broken ps) (which ∷ broken_ed
     })
     (λ e. k)
 
-fits-shape : (which : ℕ) → which < 256 → (l : List ℤ) (rest : List Row) (x : Reply) → (too_many (points l) ≡ false → Fits (first_row rest x))
+fits-shape : (which : ℕ) → which < 256 → (l : List ℤ) (rest : List Row) (x : Reply) →
+    (too_many (points l) ≡ false → Fits (first_row rest x))
     → Fits (first_row (shape_rows which l ++ rest) x)
 fits-shape which h l rest x k =
     fits-row (row 1 (bad_count l) (which ∷ [])) _ (blamed 1 which (omega arith) h) (λ e.

@@ -38,8 +38,10 @@ module _ (ps : List Point) (i j k l : ℕ) (i-in : i < length ps) (j-in : j < le
   four-heap : heap four ps ≡ (times a (corner ps i) ⊕ times b (corner ps j)) ⊕ (times c (corner ps k) ⊕ times d (corner ps l))
   four-heap = heap-add (two i (nat_abs a) j (nat_abs b)) (two k (nat_abs c) l (nat_abs d)) ps
       ∙ ap₂ (λ y z. y ⊕ z)
-      (heap-two i (nat_abs a) j (nat_abs b) ps i-in j-in ∙ ap₂ (λ y z. times y (corner ps i) ⊕ times z (corner ps j)) (size_is p) (size_is q))
-      (heap-two k (nat_abs c) l (nat_abs d) ps k-in l-in ∙ ap₂ (λ y z. times y (corner ps k) ⊕ times z (corner ps l)) (size_is r) (size_is s))
+      (heap-two i (nat_abs a) j (nat_abs b) ps i-in j-in ∙ ap₂ (λ y z. times y (corner ps i) ⊕ times z (corner ps j)) (size_is p)
+      (size_is q))
+      (heap-two k (nat_abs c) l (nat_abs d) ps k-in l-in ∙ ap₂ (λ y z. times y (corner ps k) ⊕ times z (corner ps l)) (size_is r)
+      (size_is s))
 
 four-gap : (m a b c d : ℤ) (p q r s t u v w : Point)
     → times m ((times a p ⊕ times b q) ⊕ (times c r ⊕ times d s)) ⊖ times m ((times a t ⊕ times b u) ⊕ (times c v ⊕ times d w))

@@ -4,7 +4,8 @@
 --     beside-apart       both are past the box about it in a direction, or in the opposite one
 --     grown-extends      the box about a grown obstacle: supports add
 --     corner-small, opposite-small, step-opposite, way-small     the numbers on the way there
-use Rattle.std.specs.Prelude.{◌≡◌, refl, Bool, true, false, cond, ◌&&◌, ◌||◌, List, [], ◌∷◌, ◌^◌, ◌<◌, ℤ, neg_ℤ, ◌+ℤ◌, ◌*ℤ◌, length, ◌≤ℤ◌, ◌<ℤ◌}
+use Rattle.std.specs.Prelude.{◌≡◌, refl, Bool, true, false, cond, ◌&&◌, ◌||◌, List, [], ◌∷◌, ◌^◌, ◌<◌, ℤ, neg_ℤ, ◌+ℤ◌, ◌*ℤ◌, length, ◌≤ℤ◌}
+use Rattle.std.specs.Prelude.{◌<ℤ◌}
 use Rattle.std.proofs.Math.Path.{sym, ap₂}
 use Rattle.std.proofs.Common.{◌∙◌, ap, subst, true≢false, arith, lit≤}
 use Rattle.std.proofs.Math.IntN.{pos}

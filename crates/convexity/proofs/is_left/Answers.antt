@@ -28,7 +28,8 @@ less {a} {b} {x} {y} p q = ap₂ lt_z p q ∙ go (lt_z x y) refl
         h ∙ sym (le-lt_z k)
 
 -- a product of small parts, as it is read
-product_is : {x y : ℤ} → Within (2 ^ 22) x → Within (2 ^ 22) y → to_z w64 (of_z w64 (to_z w64 (of_z w64 x) *ℤ to_z w64 (of_z w64 y))) ≡ x *ℤ y
+product_is : {x y : ℤ} → Within (2 ^ 22) x → Within (2 ^ 22) y → to_z w64 (of_z w64 (to_z w64 (of_z w64 x) *ℤ to_z w64 (of_z w64 y))) ≡ x *ℤ
+    y
 product_is h k = let p = bounded h in let q = bounded k in machine-is (search machine depth 40) tt
 
 pub overflow_mul-result : goal.overflow_mul-result

@@ -42,6 +42,7 @@ is_shape-requires c = (near→in_range _ (row-3 c), (counted _ (row-1 c.before.b
 
 pub returns : goal.returns
 returns c = (
-  (λ t. shape→valid _ (row-1 c.before.before.before.before.before) (row-2 c.before.before.before) (row-3 c.before) (c.is_shape.ensures.0 t)),
+  (λ t. shape→valid _ (row-1 c.before.before.before.before.before) (row-2 c.before.before.before) (row-3 c.before)
+      (c.is_shape.ensures.0 t)),
   (λ v. c.is_shape.ensures.1 v.shape),
 )

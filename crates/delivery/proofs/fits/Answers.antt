@@ -30,7 +30,8 @@ overflow_mul-n c = omega (arith, ltb-false max_corners c.args.n (good c).0)
 pub returns-then-room-n : goal.returns-then-room-n
 returns-then-room-n c =
     let args = c.args in
-    turns-away (refuses-join (sized_rows args.n args.far) (good (goal.at.returns-then-room-n c).In_default) (refuses (here (lt-ltb _ _ c.if-room-n.true))))
+    turns-away (refuses-join (sized_rows args.n args.far) (good (goal.at.returns-then-room-n c).In_default)
+    (refuses (here (lt-ltb _ _ c.if-room-n.true))))
 
 pub returns : goal.returns
 returns c =

@@ -95,7 +95,8 @@ not-over-end c e h = elim c.if-here-eq0.branch [
 pub returns-else-reaches-2 : goal.returns-else-reaches-2
 returns-else-reaches-2 c =
     let face = face-alone c.requires.1 c.requires.3 c.first_furthest-here.ensures c.count-n.ensures
-    (not-over-end c.before.before.before) (λ h. sym (test-is c.before.before.before.before _ c.reaches-then-next-n.ensures) ∙ c.if-reaches-2.false) in
+    (not-over-end c.before.before.before)
+    (λ h. sym (test-is c.before.before.before.before _ c.reaches-then-next-n.ensures) ∙ c.if-reaches-2.false) in
     record { first_value = face.0; last_value = face.1; value_value = value-is c.before.before.before.before.before }
 
 pub returns-else-next-n : goal.returns-else-next-n

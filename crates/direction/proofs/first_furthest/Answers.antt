@@ -44,7 +44,8 @@ loop-i-preserved c =
     let is = result-is w64 c.value_at-next.type_inv c.value_at-next.ensures in
     let test = ap (lt_z (to_z w64 c.loop-i.value-bits)) is in (
       elim c.if-value-next.branch [
-        | then-value-next w ↦ greatest-rise _ c.loop-i.invariant.0 (lt_z-true (sym test ∙ w.if-value-next.true)) w.position-is (w.value-is ∙ is)
+        | then-value-next w ↦ greatest-rise _ c.loop-i.invariant.0 (lt_z-true (sym test ∙ w.if-value-next.true)) w.position-is
+            (w.value-is ∙ is)
         | else-value-next w ↦ greatest-keep _ c.loop-i.invariant.0 (lt_z-false (sym test ∙ w.if-value-next.false)) w.position-is w.value-is
       ],
       omega arith,

@@ -22,4 +22,5 @@ pub returns-then-z-lt0 : goal.returns-then-z-lt0
 returns-then-z-lt0 c = let b = below c in rw b.value b.more-is
 
 pub overflow_cast-result-2 : goal.overflow_cast-result-2
-overflow_cast-result-2 c = let f = c.ranges.z in rw (to_z-of_z {w = w32} f) (from_zero _ tt f (rw (to_z-of_z {w = w32} f) at c.if-z-lt0.false))
+overflow_cast-result-2 c = let f = c.ranges.z in rw (to_z-of_z {w = w32} f)
+    (from_zero _ tt f (rw (to_z-of_z {w = w32} f) at c.if-z-lt0.false))

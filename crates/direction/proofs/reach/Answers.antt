@@ -44,7 +44,8 @@ loop-i-preserved c =
     let is = result-is w64 c.value_at-next.type_inv c.value_at-next.ensures in
     let test = ap (lt_z (to_z w64 c.loop-i.greatest-bits)) is in (
       elim c.if-greatest-next.branch [
-        | then-greatest-next w ↦ (c.loop-i.i, greatest-rise _ found (lt_z-true (sym test ∙ w.if-greatest-next.true)) refl (w.greatest-is ∙ is))
+        | then-greatest-next w ↦
+            (c.loop-i.i, greatest-rise _ found (lt_z-true (sym test ∙ w.if-greatest-next.true)) refl (w.greatest-is ∙ is))
         | else-greatest-next w ↦ (k, greatest-keep _ found (lt_z-false (sym test ∙ w.if-greatest-next.false)) refl w.greatest-is)
       ],
       omega arith,

@@ -77,6 +77,7 @@ module _ {d : Point} {ps : List Point} (s : IsShape ps) (some : NonZero d) where
     pub face-onward : here + 1 < count → is_furthest d ps (here + 1) ≡ true → (here ≡ face_first d ps) × (here + 1 ≡ face_last d ps)
     face-onward = rw (here-is, count-is) (λ h t. only (onward-face h t))
 
-    pub face-alone : (here ≡ 0 → 2 < count → is_furthest d ps (count - 1) ≡ false) → (here + 1 < count → is_furthest d ps (here + 1) ≡ false)
+    pub face-alone : (here ≡ 0 → 2 < count → is_furthest d ps (count - 1) ≡ false) →
+        (here + 1 < count → is_furthest d ps (here + 1) ≡ false)
         → (here ≡ face_first d ps) × (here ≡ face_last d ps)
     face-alone = rw (here-is, count-is) (λ p q. only (alone p q))

@@ -24,7 +24,8 @@ y-is : (c : After-outside-2) {b : Bool} → c.outside-2.result ≡ b → outside
 y-is c e = sym (c.outside-2.ensures ∙ ap outside (result-is w32 c.struct_told-2-1.given.1.0.1 refl)) ∙ e
 
 pub returns-then-outside : goal.returns-then-outside
-returns-then-outside c = turns-away (refuses (here (either _ _ (x-is (goal.at.returns-then-outside c).After-outside c.if-outside.true) refl)))
+returns-then-outside c = turns-away
+    (refuses (here (either _ _ (x-is (goal.at.returns-then-outside c).After-outside c.if-outside.true) refl)))
 
 pub returns-then-outside-2 : goal.returns-then-outside-2
 returns-then-outside-2 c = turns-away (refuses (here (either _ _ (x-is (goal.at.returns-then-outside-2 c).After-outside c.if-outside.false)

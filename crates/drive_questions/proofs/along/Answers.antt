@@ -19,7 +19,8 @@ use Rattle.gaps.specs.Gap.{on_floor, size_rows_of}
 use Rattle.drives.specs.theory.Replies.{drive-refused, drive-damaged, drive-empty, drive-far, drive-beyond, drive-large, drive-found}
 use Rattle.drive_questions.proofs.Places.{in-range}
 use Rattle.drive_questions.proofs.along.Goals as goal
-use Rattle.drive_questions.proofs.along.Goals.{Else-is_empty, In_default, In_default-admit_place, In_default-admit_place-2, In_default-admit_sizes, In_default-survey, Start}
+use Rattle.drive_questions.proofs.along.Goals.{Else-is_empty, In_default, In_default-admit_place, In_default-admit_place-2}
+use Rattle.drive_questions.proofs.along.Goals.{In_default-admit_sizes, In_default-survey, Start}
 
 -- the cart with its floor
 abbrev lent : Start → Floored
@@ -62,16 +63,22 @@ is_empty-requires c = sound c
 
 pub returns-then-is_empty : goal.returns-then-is_empty
 returns-then-is_empty c =
-    drive-empty _ (lent (at-start (goal.at.returns-then-is_empty c).In_default)) _ _ (valid (goal.at.returns-then-is_empty c).In_default) (sound (goal.at.returns-then-is_empty c).In_default-survey) (sym c.is_empty.ensures ∙ c.if-is_empty.true)
+    drive-empty _ (lent (at-start (goal.at.returns-then-is_empty c).In_default)) _ _ (valid (goal.at.returns-then-is_empty c).In_default)
+    (sound (goal.at.returns-then-is_empty c).In_default-survey) (sym c.is_empty.ensures ∙ c.if-is_empty.true)
 
 pub returns-in-No-admit_place : goal.returns-in-No-admit_place
 returns-in-No-admit_place c =
-    drive-far _ (lent (at-start (goal.at.returns-in-No-admit_place c).In_default)) _ _ (valid (goal.at.returns-in-No-admit_place c).In_default) (sound (goal.at.returns-in-No-admit_place c).In_default-survey) (some (goal.at.returns-in-No-admit_place c).Else-is_empty)
+    drive-far _ (lent (at-start (goal.at.returns-in-No-admit_place c).In_default)) _ _
+    (valid (goal.at.returns-in-No-admit_place c).In_default) (sound (goal.at.returns-in-No-admit_place c).In_default-survey)
+    (some (goal.at.returns-in-No-admit_place c).Else-is_empty)
     (c.admit_place.ensures.no _ c.in-No-admit_place.is)
 
 pub returns-in-No-admit_place-2 : goal.returns-in-No-admit_place-2
 returns-in-No-admit_place-2 c =
-    drive-beyond _ (lent (at-start (goal.at.returns-in-No-admit_place-2 c).In_default)) _ _ (valid (goal.at.returns-in-No-admit_place-2 c).In_default) (sound (goal.at.returns-in-No-admit_place-2 c).In_default-survey) (some (goal.at.returns-in-No-admit_place-2 c).Else-is_empty) (from-near (goal.at.returns-in-No-admit_place-2 c).In_default-admit_place)
+    drive-beyond _ (lent (at-start (goal.at.returns-in-No-admit_place-2 c).In_default)) _ _
+    (valid (goal.at.returns-in-No-admit_place-2 c).In_default) (sound (goal.at.returns-in-No-admit_place-2 c).In_default-survey)
+    (some (goal.at.returns-in-No-admit_place-2 c).Else-is_empty)
+    (from-near (goal.at.returns-in-No-admit_place-2 c).In_default-admit_place)
     (c.admit_place-2.ensures.no _ c.in-No-admit_place-2.is)
 
 pub admit_sizes-requires : goal.admit_sizes-requires
@@ -80,7 +87,10 @@ admit_sizes-requires c =
 
 pub returns-in-No-admit_sizes : goal.returns-in-No-admit_sizes
 returns-in-No-admit_sizes c =
-    drive-large _ (lent (at-start (goal.at.returns-in-No-admit_sizes c).In_default)) _ _ (valid (goal.at.returns-in-No-admit_sizes c).In_default) (sound (goal.at.returns-in-No-admit_sizes c).In_default-survey) (some (goal.at.returns-in-No-admit_sizes c).Else-is_empty) (from-near (goal.at.returns-in-No-admit_sizes c).In_default-admit_place) (to-near (goal.at.returns-in-No-admit_sizes c).In_default-admit_place-2)
+    drive-large _ (lent (at-start (goal.at.returns-in-No-admit_sizes c).In_default)) _ _
+    (valid (goal.at.returns-in-No-admit_sizes c).In_default) (sound (goal.at.returns-in-No-admit_sizes c).In_default-survey)
+    (some (goal.at.returns-in-No-admit_sizes c).Else-is_empty) (from-near (goal.at.returns-in-No-admit_sizes c).In_default-admit_place)
+    (to-near (goal.at.returns-in-No-admit_sizes c).In_default-admit_place-2)
     (c.admit_sizes.ensures.no _ c.in-No-admit_sizes.is)
 
 -- past the sizes every grown shape is one
@@ -94,12 +104,18 @@ pub first-requires : goal.first-requires
 first-requires c = (
   sound (goal.at.first-requires c).In_default-survey,
   valid (goal.at.first-requires c).In_default,
-  record { from-near = in-range _ (from-near (goal.at.first-requires c).In_default-admit_place); to-near = in-range _ (to-near (goal.at.first-requires c).In_default-admit_place-2) },
+  record {
+    from-near = in-range _ (from-near (goal.at.first-requires c).In_default-admit_place);
+    to-near = in-range _
+        (to-near (goal.at.first-requires c).In_default-admit_place-2);
+  },
   sized c,
 )
 
 pub returns : goal.returns
 returns c =
     c.reached.ensures
-    ∙ drive-found _ (lent (at-start (goal.at.returns c).In_default)) _ _ (valid (goal.at.returns c).In_default) (sound (goal.at.returns c).In_default-survey) (some (goal.at.returns c).Else-is_empty) (from-near (goal.at.returns c).In_default-admit_place) (to-near (goal.at.returns c).In_default-admit_place-2)
+    ∙ drive-found _ (lent (at-start (goal.at.returns c).In_default)) _ _ (valid (goal.at.returns c).In_default)
+    (sound (goal.at.returns c).In_default-survey) (some (goal.at.returns c).Else-is_empty)
+    (from-near (goal.at.returns c).In_default-admit_place) (to-near (goal.at.returns c).In_default-admit_place-2)
     (sized (goal.at.returns c).In_default-admit_sizes) c.first.ensures

@@ -15,4 +15,5 @@ returns c =
     let fits = c.ranges in
     c.driven.ensures
     ∙ ap₂ (λ (p q : Point). reply (ask_contact (on args.obstacle.now args.f) (on args.cart.now args.g) p q))
-    (ap₂ point (to_z-of_z {w = w32} fits.x) (to_z-of_z {w = w32} fits.y)) (ap₂ point (to_z-of_z {w = w32} fits.u) (to_z-of_z {w = w32} fits.v))
+    (ap₂ point (to_z-of_z {w = w32} fits.x) (to_z-of_z {w = w32} fits.y))
+    (ap₂ point (to_z-of_z {w = w32} fits.u) (to_z-of_z {w = w32} fits.v))

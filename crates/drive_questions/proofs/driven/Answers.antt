@@ -57,12 +57,14 @@ returns-in-No c =
 
 pub returns-in-No-admit_place : goal.returns-in-No-admit_place
 returns-in-No-admit_place c =
-    (rest-refused (asked (goal.at.returns-in-No-admit_place c).Start) (shapes (goal.at.returns-in-No-admit_place c).In_default) (refuses-append (place_row 4 (at c.args.to) ∷ rows (goal.at.returns-in-No-admit_place c).Start)
+    (rest-refused (asked (goal.at.returns-in-No-admit_place c).Start) (shapes (goal.at.returns-in-No-admit_place c).In_default)
+    (refuses-append (place_row 4 (at c.args.to) ∷ rows (goal.at.returns-in-No-admit_place c).Start)
     (c.admit_place.ensures.no _ c.in-No-admit_place.is))).0
 
 pub returns-in-No-admit_place-2 : goal.returns-in-No-admit_place-2
 returns-in-No-admit_place-2 c =
-    (rest-refused (asked (goal.at.returns-in-No-admit_place-2 c).Start) (shapes (goal.at.returns-in-No-admit_place-2 c).In_default) (refuses-join (place_row 3 (at c.args.from) ∷ []) (from-near (goal.at.returns-in-No-admit_place-2 c).In_default-admit_place, tt)
+    (rest-refused (asked (goal.at.returns-in-No-admit_place-2 c).Start) (shapes (goal.at.returns-in-No-admit_place-2 c).In_default)
+    (refuses-join (place_row 3 (at c.args.from) ∷ []) (from-near (goal.at.returns-in-No-admit_place-2 c).In_default-admit_place, tt)
     (refuses-append (rows (goal.at.returns-in-No-admit_place-2 c).Start) (c.admit_place-2.ensures.no _ c.in-No-admit_place-2.is)))).0
 
 pub admit_grown-requires : goal.admit_grown-requires
@@ -71,7 +73,10 @@ admit_grown-requires c = let all = shapes (goal.at.admit_grown-requires c).In_de
 pub returns-in-No-admit_grown : goal.returns-in-No-admit_grown
 returns-in-No-admit_grown c =
     (rest-refused (asked (goal.at.returns-in-No-admit_grown c).Start) (shapes (goal.at.returns-in-No-admit_grown c).In_default)
-    (refuses-join (place_row 3 (at c.args.from) ∷ place_row 4 (at c.args.to) ∷ []) (from-near (goal.at.returns-in-No-admit_grown c).In_default-admit_place, (to-near (goal.at.returns-in-No-admit_grown c).In_default-admit_place-2, tt))
+    (refuses-join (place_row 3 (at c.args.from) ∷ place_row 4 (at c.args.to) ∷ []) (
+      from-near (goal.at.returns-in-No-admit_grown c).In_default-admit_place,
+      (to-near (goal.at.returns-in-No-admit_grown c).In_default-admit_place-2, tt),
+    )
     (c.admit_grown.ensures.no _ c.in-No-admit_grown.is))).0
 
 pub first-requires : goal.first-requires
@@ -80,10 +85,17 @@ first-requires c =
       all.first-valid,
       all.second-valid,
       grown-valid _ _ all.first-valid.shape.some all.second-valid.shape.some (grown-fits c),
-      record { from-near = in-range _ (from-near (goal.at.first-requires c).In_default-admit_place); to-near = in-range _ (to-near (goal.at.first-requires c).In_default-admit_place-2) },
+      record {
+        from-near = in-range _ (from-near (goal.at.first-requires c).In_default-admit_place);
+        to-near = in-range _
+            (to-near (goal.at.first-requires c).In_default-admit_place-2);
+      },
     )
 
 pub returns : goal.returns
 returns c =
     c.met.ensures ∙ ap (λ (vs : List ℤ). answered (vs ++ (pos c.args.f ∷ []))) c.first.ensures
-    ∙ sym (contact-answers (one (goal.at.returns c).Start) (other (goal.at.returns c).Start) _ _ (shapes (goal.at.returns c).In_default) (from-near (goal.at.returns c).In_default-admit_place, (to-near (goal.at.returns c).In_default-admit_place-2, grown-fits (goal.at.returns c).In_default-admit_grown)))
+    ∙ sym (contact-answers (one (goal.at.returns c).Start) (other (goal.at.returns c).Start) _ _ (shapes (goal.at.returns c).In_default) (
+      from-near (goal.at.returns c).In_default-admit_place,
+      (to-near (goal.at.returns c).In_default-admit_place-2, grown-fits (goal.at.returns c).In_default-admit_grown),
+    ))

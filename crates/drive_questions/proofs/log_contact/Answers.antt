@@ -15,4 +15,5 @@ returns c =
     let fits = c.ranges in
     c.along.ensures
     ∙ ap₂ (λ (p q : Point). reply (ask_drive args.log.now (on args.cart.now args.floor) p q))
-    (ap₂ point (to_z-of_z {w = w32} fits.x) (to_z-of_z {w = w32} fits.y)) (ap₂ point (to_z-of_z {w = w32} fits.u) (to_z-of_z {w = w32} fits.v))
+    (ap₂ point (to_z-of_z {w = w32} fits.x) (to_z-of_z {w = w32} fits.y))
+    (ap₂ point (to_z-of_z {w = w32} fits.u) (to_z-of_z {w = w32} fits.v))

@@ -14,7 +14,8 @@ use Rattle.endian.proofs.encode.Goals.{At-loop-i}
 -- the output is as long as it was
 room : (c : At-loop-i) → length c.loop-i.out ≡ length c.args.out.now
 room c =
-    encoded-length c.loop-i.invariant.1 (omega (arith, c.loop-i.invariant.0, c.requires.0)) (omega (arith, c.loop-i.invariant.0, c.requires.1))
+    encoded-length c.loop-i.invariant.1 (omega (arith, c.loop-i.invariant.0, c.requires.0))
+    (omega (arith, c.loop-i.invariant.0, c.requires.1))
 
 pub loop-i-init : goal.loop-i-init
 loop-i-init c = (omega arith, encoded-start _ _)

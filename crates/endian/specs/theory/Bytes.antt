@@ -6,7 +6,8 @@
 --     pair_at-pair, words_at-words      what was written at the place p reads back
 use Rattle.std.specs.Prelude.{◌≡◌, length, take, drop, ℤ, pos}
 use Rattle.std.proofs.Math.Path.{refl, ap, ap₂}
-use Rattle.std.proofs.Common.{sym, ◌∙◌, le_of_suc-le-suc, not-suc-le-zero, add-one, length-append, get_or-append-add, get_or-take, get_or-drop, take-suc, to_z-of_z}
+use Rattle.std.proofs.Common.{sym, ◌∙◌, le_of_suc-le-suc, not-suc-le-zero, add-one, length-append, get_or-append-add, get_or-take}
+use Rattle.std.proofs.Common.{get_or-drop, take-suc, to_z-of_z}
 use mathlib.Core.List.{List, [], ◌∷◌, ◌++◌, append_assoc, append-nil}
 use Prim.Native.Nat.{ℕ, zero, suc, ◌+◌, ◌*◌, ◌/◌, ◌%◌, ◌≤◌, ◌<◌, suc-le-suc}
 use native.Mathlib.Omega.{arith}
@@ -131,7 +132,8 @@ word_back z t h = ap (to_z w32) bits ∙ to_z-of_z h
 pub pair_at-pair : (f t : List ℕ) (p : ℕ) → length f ≡ p → (n : ℕ) → n < 65536 → pair_at (f ++ (pair n ++ t)) p ≡ n
 pair_at-pair f t p here n h = pair_at-past f (pair n ++ t) p 0 (omega (arith, here)) ∙ pair-back n t h
 
-words_back : (l : List ℤ) (t : List ℕ) → ((i : ℕ) → i < length l → SFits w32 (get_or l i (pos 0))) → words_at (length l) (words l ++ t) 0 ≡ l
+words_back : (l : List ℤ) (t : List ℕ) → ((i : ℕ) → i < length l → SFits w32 (get_or l i (pos 0))) → words_at (length l) (words l ++ t) 0 ≡
+    l
 unfolding words_at words
 words_back [] t h = refl
 words_back (z ∷ l) t h =

@@ -69,7 +69,8 @@ rounded-requires c =
 
 pub returns-in-Meets : goal.returns-in-Meets
 returns-in-Meets c =
-    absurd (true≢false (sym (clear (goal.at.returns-in-Meets c).After-corner_at) ∙ known (goal.at.returns-in-Meets c).After-spacing c.in-Meets.is))
+    absurd (true≢false (sym (clear (goal.at.returns-in-Meets c).After-corner_at) ∙ known (goal.at.returns-in-Meets c).After-spacing
+    c.in-Meets.is))
 
 pub returns-in-Apart : goal.returns-in-Apart
 returns-in-Apart c =

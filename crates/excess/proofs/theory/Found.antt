@@ -6,7 +6,8 @@
 --     found-far, none-far      its fraction is the distance; 0 if p is not apart from O
 --     far-further, far-no-further     fractions compare as distances do
 --     found_up           with its millimetres rounded up it is what is answered of the outermost corner
-use Rattle.std.specs.Prelude.{◌≡◌, refl, Bool, true, false, cond, List, [], ◌∷◌, ℕ, zero, suc, ◌*◌, ◌<◌, ◌≤◌, ltb, ℤ, ◌*ℤ◌, length, get_or, ◌≤ℤ◌, ◌<ℤ◌}
+use Rattle.std.specs.Prelude.{◌≡◌, refl, Bool, true, false, cond, List, [], ◌∷◌, ℕ, zero, suc, ◌*◌, ◌<◌, ◌≤◌, ltb, ℤ, ◌*ℤ◌, length, get_or}
+use Rattle.std.specs.Prelude.{◌≤ℤ◌, ◌<ℤ◌}
 use Rattle.std.proofs.Math.Path.{sym, ap, ap₂}
 use Rattle.std.proofs.Common.{◌∙◌, subst, mul-one, arith, lt-ltb, lit≤}
 use Rattle.std.proofs.Math.IntN.{pos, nat_abs}
@@ -179,7 +180,8 @@ module _ (N O : List Point) (s : IsShape O) where
       → beyond (corner N c) O ≡ over (top (corner N c ∷ []) O k) (bottom (corner N c ∷ []) O k) → up_numbers c d ≡ corner_numbers N O c k
   unfolding top bottom
   by-up (found-corner j a m d w at far some root) e =
-      let root_is : up N O ≡ root_above (d * d) d = up_of e ∙ ap (λ z. root_above (nat_abs z) 1) far ∙ sym (root_above-square-over d some) in
+      let root_is : up N O ≡ root_above (d * d) d = up_of e ∙ ap (λ z. root_above (nat_abs z) 1) far ∙ sym (root_above-square-over d some)
+      in
       ap₂ (λ n z. pos 1 ∷ pos c ∷ pos n ∷ z ∷ pos (root_above (d * d) d) ∷ []) at (sym far)
       ∙ ap (λ u. pos 1 ∷ pos c ∷ pos j ∷ squared (corner N c) (corner O j) ∷ pos u ∷ []) (sym root_is)
   by-up (found-edge j a m t q w at turn long some root) e =

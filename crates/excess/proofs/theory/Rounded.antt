@@ -8,7 +8,8 @@
 --     up-enough, up_least  the excess, rounded up
 use Rattle.std.specs.Prelude.{◌≡◌, Bool, cond, List, [], ◌∷◌, leb, ℤ, nat_abs, ◌+ℤ◌, ◌*ℤ◌, length, ◌≤ℤ◌, ◌<ℤ◌}
 use Rattle.std.proofs.Math.Path.{refl, subst}
-use Rattle.std.proofs.Common.{sym, ◌∙◌, ap, mul-one, mul-le-mul, mul-le-mul_right, mul-lt-mul_of_pos_right, le-mul_of_pos_right, zero-lt-suc, arith, leb→le}
+use Rattle.std.proofs.Common.{sym, ◌∙◌, ap, mul-one, mul-le-mul, mul-le-mul_right, mul-lt-mul_of_pos_right, le-mul_of_pos_right}
+use Rattle.std.proofs.Common.{zero-lt-suc, arith, leb→le}
 use Rattle.std.proofs.Math.Bool.{true, false}
 use Prim.Native.Nat.{ℕ, zero, suc, ◌+◌, ◌*◌, ◌≤◌, ◌<◌, zero-le}
 use borrow.Author.Tests.{ltb-true, ltb-false, leb-true, leb-false, le-leb, lt-leb}

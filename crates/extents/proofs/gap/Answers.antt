@@ -31,7 +31,8 @@ overflow_cast-y c = machine-fits (search (machine, bounded) depth 40) tt
 
 -- a coordinate of the sum with its sign changed, as the code makes it
 turned : {x y : ℤ} → Within (2 ^ 22) x → Within (2 ^ 22) y
-    → to_z w64 (of_z w64 (to_z w32 (of_z w32 (pos 0 -ℤ to_z w32 (of_z w32 (to_z w32 (of_z w32 x) +ℤ to_z w32 (of_z w32 y))))))) ≡ neg_ℤ (x +ℤ y)
+    → to_z w64 (of_z w64 (to_z w32 (of_z w32 (pos 0 -ℤ to_z w32 (of_z w32 (to_z w32 (of_z w32 x) +ℤ to_z w32 (of_z w32 y))))))) ≡ neg_ℤ
+    (x +ℤ y)
 turned h k = machine-is (search (machine, bounded) depth 40) tt ∙ +ℤ_idl _
 
 pub returns : goal.returns

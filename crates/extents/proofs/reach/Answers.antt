@@ -25,7 +25,10 @@ pub sum-requires : goal.sum-requires
 sum-requires c = ((first_small (goal.at.sum-requires c).After-extent_of-f).0, (second-small (goal.at.sum-requires c).After-extent_of-f).0)
 
 pub sum-requires-2 : goal.sum-requires-2
-sum-requires-2 c = ((first_small (goal.at.sum-requires-2 c).After-extent_of-f).1, (second-small (goal.at.sum-requires-2 c).After-extent_of-f).1)
+sum-requires-2 c = (
+  (first_small (goal.at.sum-requires-2 c).After-extent_of-f).1,
+  (second-small (goal.at.sum-requires-2 c).After-extent_of-f).1,
+)
 
 pub returns : goal.returns
 returns c =
@@ -36,7 +39,9 @@ returns c =
         low-is = c.sum-2.ensures ∙ ap₂ ◌⊕◌ one.low-is other.low-is;
       },
       record {
-        high = sum-small c.sum.ensures (first_small (goal.at.returns c).After-extent_of-f).0 (second-small (goal.at.returns c).After-extent_of-f).0;
-        low = sum-small c.sum-2.ensures (first_small (goal.at.returns c).After-extent_of-f).1 (second-small (goal.at.returns c).After-extent_of-f).1;
+        high = sum-small c.sum.ensures (first_small (goal.at.returns c).After-extent_of-f).0
+            (second-small (goal.at.returns c).After-extent_of-f).0;
+        low = sum-small c.sum-2.ensures (first_small (goal.at.returns c).After-extent_of-f).1
+            (second-small (goal.at.returns c).After-extent_of-f).1;
       },
     )

@@ -134,7 +134,8 @@ module _ (A : List Point) (a : 0 < length A) (b : List ℕ) (f : ℕ) (sound : d
       drive-is-apart-as-its-segment A (shape_of r) a w.some t u
 
   -- the drive as a list that can be asked: apart goes by how far lists reach, so that a set's shape does for the set
-  drive-shape : (t u : Point) (r : List ℕ) → Whole r → apart (corner_shape_of (driven A t u)) (shape_of r) ≡ apart (driven A t u) (shape_of r)
+  drive-shape : (t u : Point) (r : List ℕ) → Whole r → apart (corner_shape_of (driven A t u)) (shape_of r) ≡ apart (driven A t u)
+      (shape_of r)
   drive-shape t u r w =
       let some = sums-some A (t ∷ u ∷ []) a (omega arith) in
       alike-apart (corner_shape_of (driven A t u)) (shape_of r) (driven A t u) (shape_of r) (record {

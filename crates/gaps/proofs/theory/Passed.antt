@@ -76,7 +76,8 @@ module _ (A : List Point) where
     }
 
     -- with a pair that was found, whatever is kept
-    pub passed-tried : (p q : ℕ) (w : Spacing) (s : Best) → Told A b s → Found A b p q w → Passed A b (pair_at b p q ∷ []) s (nearer p q w s)
+    pub passed-tried : (p q : ℕ) (w : Spacing) (s : Best) → Told A b s → Found A b p q w → Passed A b (pair_at b p q ∷ []) s
+        (nearer p q w s)
     passed-tried p q w Best.Nothing t f = passed-nearer p q w f Best.Nothing t refl
     passed-tried p q w (Best.Pair i j v) t f = go (no_more (fraction_of v) (fraction_of w)) refl
       where

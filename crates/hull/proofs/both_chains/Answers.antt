@@ -99,7 +99,8 @@ returns c =
     let down = c.left_chain-left.ensures in
     let part = length-take-le (length xs - 2 * m) (drop (2 * m) xs) (omega (arith, length-drop (2 * m) xs)) in
     let right-in : m ≤ length (points xs) = omega (arith, room c.before.before.before.before) in
-    let left_in : n ≤ length (points ys) = omega (arith, room c.before.before.before.before, down.few, down.same, part, points-length xs, points-length ys) in
+    let left_in : n ≤ length (points ys) = omega
+    (arith, room c.before.before.before.before, down.few, down.same, part, points-length xs, points-length ys) in
     subst (λ (ps : List Point). Front ps (m + n) (put_mid (2 * m) (length xs - 2 * m) xs ys))
     (chains-shape pre.0.shape pre.1.shape pre.2 c.right_chain-right.ensures down right-in left_in)
     (front-put xs ys m n (length xs - 2 * m) right-in left_in)

@@ -79,4 +79,5 @@ pub returns : goal.returns
 unfolding shape_of
 returns c =
     subst (λ (ps : List Point). Front ps c.outline.result c.outline.new.buf)
-    (ap outline (sorted c.before.before.before.before.before).front ∙ (kept c.before.before.before.before.before.before.before.before.before).shape) c.outline.ensures
+    (ap outline (sorted c.before.before.before.before.before).front ∙
+    (kept c.before.before.before.before.before.before.before.before.before).shape) c.outline.ensures

@@ -5,7 +5,8 @@
 --     Scanning, scanning-start, -one, -rest, -end           the loop that reads points; `scanning-room`: there is room for the next;
 --                                                           `scanning-as`: what is to come, by another name
 --     first-scanned, chained      one point is written; with the rows, and the last point settled, it is a chain
-use Rattle.std.specs.Prelude.{◌≡◌, refl, Bool, true, false, List, [], ◌∷◌, reverse, ℕ, zero, suc, ◌+◌, ◌-◌, ◌^◌, ◌≤◌, ◌<◌, ℤ, pos, length, take, set}
+use Rattle.std.specs.Prelude.{◌≡◌, refl, Bool, true, false, List, [], ◌∷◌, reverse, ℕ, zero, suc, ◌+◌, ◌-◌, ◌^◌, ◌≤◌, ◌<◌, ℤ, pos, length}
+use Rattle.std.specs.Prelude.{take, set}
 use Rattle.std.proofs.Common.{sym, ◌∙◌, ap, ap₂, subst, add-one, arith, take-suc, get_or-set_same, get_or-set_other}
 use Rattle.std.proofs.lemmas.List.{reverse-append, reverse-reverse}
 use Rattle.std.proofs.Math.Decide.{ℕ_discrete}

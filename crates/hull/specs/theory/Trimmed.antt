@@ -111,7 +111,8 @@ module _ {half : Bool} {A : List Point} {low high : ℕ} {s t : Point} (c : Span
       above = omega (arith, end-most)
 
       from : Dec (x ≡ low) → Ahead half s (corner (closed A) x)
-      from (yes e) = right-behind s t (subst (λ i. is_right s t (corner (closed A) i) ≡ true) (sym e) (one-true (omega (arith, first-most))))
+      from (yes e) = right-behind s t
+          (subst (λ i. is_right s t (corner (closed A) i) ≡ true) (sym e) (one-true (omega (arith, first-most))))
           (behind-first x (omega arith) above)
       from (no f) = reaches-on c.after (c.chain.rises.rises low x (omega arith) (omega (arith, f)) (omega (arith, above)))
 

@@ -6,7 +6,8 @@
 --     unfinished-seen               where it was cut or refused, the records are as before
 --     enough-allowed, nothing-allowed, one-more-allowed                    what an allowance comes to
 --     sound-added                   where no record is bad, 15 does not come
-use Rattle.std.specs.Prelude.{◌≡◌, refl, Bool, true, false, cond, List, [], ◌∷◌, ◌++◌, ℕ, suc, ◌*◌, ◌-◌, ◌≤◌, ◌<◌, eqb, leb, length, take, set, replicate, ℤ, pos}
+use Rattle.std.specs.Prelude.{◌≡◌, refl, Bool, true, false, cond, List, [], ◌∷◌, ◌++◌, ℕ, suc, ◌*◌, ◌-◌, ◌≤◌, ◌<◌, eqb, leb, length, take}
+use Rattle.std.specs.Prelude.{set, replicate, ℤ, pos}
 use Rattle.std.proofs.Common.{sym, ◌∙◌, true≢false, arith, ltb-false, leb-true, le-leb, eq-eqb, ne_eqb, take_all}
 use Rattle.std.proofs.Math.Path.{ap}
 use Rattle.std.proofs.Math.Bool.{or-false}

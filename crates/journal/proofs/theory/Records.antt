@@ -6,7 +6,8 @@
 --     records-front, records-none, end-front, end_none       how records and end compute, as a loop goes along a log
 use Rattle.std.specs.Prelude.{◌≡◌, Bool, true, false, not, cond, ◌&&◌, ℕ, zero, suc, ◌+◌, ◌*◌, ◌≤◌, eqb, leb, get_or, take, drop}
 use Rattle.std.proofs.Math.Path.{refl, ap}
-use Rattle.std.proofs.Common.{sym, ◌∙◌, ap₂, subst, le_of_suc-le-suc, not-suc-le-zero, arith, leb-true, le-leb, eqb-true, eq-eqb, ne_eqb, length-drop, take-append-drop, length-take-le, get_or-take, take_at, drop_at}
+use Rattle.std.proofs.Common.{sym, ◌∙◌, ap₂, subst, le_of_suc-le-suc, not-suc-le-zero, arith, leb-true, le-leb, eqb-true, eq-eqb, ne_eqb}
+use Rattle.std.proofs.Common.{length-drop, take-append-drop, length-take-le, get_or-take, take_at, drop_at}
 use Rattle.std.proofs.Math.Bool.{and-eq-true_iff}
 use mathlib.Core.List.{List, [], ◌∷◌, ◌++◌, append_assoc}
 use Rattle.std.proofs.lemmas.Bool.{eqb-false, not-true}
@@ -77,7 +78,8 @@ entry-front t w =
         two = omega arith;
         some = omega (arith, w.some);
         fits = omega arith;
-        ends = ap (λ (n : ℕ). get_or (take (2 + size t) t) (1 + n) 0) same ∙ get_or-take (2 + size t) t (1 + size t) 0 (omega arith) ∙ w.ends;
+        ends = ap (λ (n : ℕ). get_or (take (2 + size t) t) (1 + n) 0) same ∙ get_or-take (2 + size t) t (1 + size t) 0 (omega arith) ∙
+            w.ends;
       };
       exact = omega arith;
     }

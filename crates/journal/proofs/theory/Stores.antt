@@ -6,7 +6,8 @@
 --     stores-few                 twice the log's bytes are enough
 --     with_new b r t, cut-seen    the records after k stores: those of before, and the new one if k is enough
 use Rattle.std.specs.Prelude.{◌≡◌, refl, Bool, true, false, cond, ℕ, zero, suc, ◌+◌, ◌*◌, ◌-◌, ◌≤◌, ◌<◌, eqb, leb, length, take, set}
-use Rattle.std.proofs.Common.{sym, ◌∙◌, subst, suc-le-suc, le_of_suc-le-suc, not-suc-le-zero, suc-add, zero-add, leb-true, leb-false, eqb-true, take_all}
+use Rattle.std.proofs.Common.{sym, ◌∙◌, subst, suc-le-suc, le_of_suc-le-suc, not-suc-le-zero, suc-add, zero-add, leb-true, leb-false}
+use Rattle.std.proofs.Common.{eqb-true, take_all}
 use Rattle.std.proofs.Math.Path.{ap}
 use mathlib.Core.List.{List, [], ◌∷◌, ◌++◌, append_assoc, append-nil}
 use native.Mathlib.Omega.{arith}

@@ -8,8 +8,10 @@
 --     ran-start, ran-more                 a list of numbers; one more
 --     ran-recorded                        a record, field by field, and whether its last byte was stored
 --     ran-stores                          all stores of an addition, and whether they were made
-use Rattle.std.specs.Prelude.{◌≡◌, refl, Bool, true, false, cond, List, [], ◌∷◌, ◌++◌, ℕ, zero, suc, ◌+◌, ◌*◌, ◌-◌, ◌/◌, ◌%◌, ◌≤◌, ◌<◌, eqb, leb, ltb, ℤ, pos, length, get_or, take, drop, set}
-use Rattle.std.proofs.Common.{sym, ◌∙◌, ap, ap₂, subst, not-suc-le-zero, arith, leb-true, leb-false, le-leb, eq-eqb, ne_eqb, length-append, length-drop, length-set, take-take, length-take-le, get_or-take, get_or-drop, drop-cons, of_z}
+use Rattle.std.specs.Prelude.{◌≡◌, refl, Bool, true, false, cond, List, [], ◌∷◌, ◌++◌, ℕ, zero, suc, ◌+◌, ◌*◌, ◌-◌, ◌/◌, ◌%◌, ◌≤◌, ◌<◌, eqb}
+use Rattle.std.specs.Prelude.{leb, ltb, ℤ, pos, length, get_or, take, drop, set}
+use Rattle.std.proofs.Common.{sym, ◌∙◌, ap, ap₂, subst, not-suc-le-zero, arith, leb-true, leb-false, le-leb, eq-eqb, ne_eqb, length-append}
+use Rattle.std.proofs.Common.{length-drop, length-set, take-take, length-take-le, get_or-take, get_or-drop, drop-cons, of_z}
 use Rattle.std.proofs.lemmas.Bool.{lt-leb}
 use Rattle.std.proofs.Math.Seq.{take-nil, drop-length}
 use Rattle.std.proofs.lemmas.List.{take-set-le}
@@ -111,7 +113,8 @@ front_kept k p x b = go k (eqb x 0)
     go zero false = refl
     go (suc k) false = ap (λ (ss : List Store). take p (made ss (set b p 0))) (take-nil k) ∙ take-set-le p b p 0 (omega arith)
 
-pub cleared-next : {k m n : ℕ} {b c d : List ℕ} (q : ℕ) → Cleared k b (suc q) m c → Ran m (cleared q (get_or c q 0)) c n d → Cleared k b q n d
+pub cleared-next : {k m n : ℕ} {b c d : List ℕ} (q : ℕ) → Cleared k b (suc q) m c → Ran m (cleared q (get_or c q 0)) c n d → Cleared k b q n
+    d
 cleared-next {k} {m} {n} {b} {c} {d} q f g = record {
   inside = omega (arith, f.inside);
   ran = subst (λ (ss : List Store). Ran k ss b n d) together (ran_append f.ran g);

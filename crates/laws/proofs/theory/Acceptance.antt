@@ -58,7 +58,8 @@ pair-accepted f a b shape out v w fits =
 -- ---- the origin point, and what is answered with a shape
 
 pub origin-valid : Valid (pos 0 ∷ pos 0 ∷ [])
-unfolding reply bad_count too_many outside some_outside equal_pair left_broken rule_broken bad_start breaks precedes max_corners max_coordinate
+unfolding reply bad_count too_many outside some_outside equal_pair left_broken rule_broken bad_start breaks precedes max_corners
+    max_coordinate
 origin-valid = accepted-is-valid (pos 0 ∷ pos 0 ∷ []) 0 (pos 1 ∷ pos 0 ∷ []) refl
 
 pub valid-gives : (s : Floored) (out : List ℤ) → Valid s.list → Gives (answered_with s out) s

@@ -86,6 +86,8 @@ module _ (f : ℕ) where
   sums-result L v g n =
       unrefused→result sum_call (λ a b out u h. (_, (made-answered (two_shapes a b) _ out u h).1)) g (sum_of_all f L) (sums-whole L v g) n
 
-  pub merges-result : (L : List Floored) → AllOn f L → (g : Grouping L) → (Refused merge_call g → ⊥) → Result merge_call g (merge_of_all f L)
+  pub merges-result : (L : List Floored) → AllOn f L → (g : Grouping L) → (Refused merge_call g → ⊥) → Result merge_call g
+      (merge_of_all f L)
   merges-result L v g n =
-      unrefused→result merge_call (λ a b out u h. (_, (made-answered (two_shapes a b) _ out u h).1)) g (merge_of_all f L) (merges-whole L v g) n
+      unrefused→result merge_call (λ a b out u h. (_, (made-answered (two_shapes a b) _ out u h).1)) g (merge_of_all f L)
+      (merges-whole L v g) n

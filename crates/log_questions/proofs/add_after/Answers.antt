@@ -39,11 +39,13 @@ add-requires c = (c.requires.2, room c.before)
 pub returns-then-add : goal.returns-then-add
 returns-then-add c =
     let end = c.requires.2 in
-    add_done _ _ _ _ _ c.requires.0 c.requires.1 (omega (arith, room (goal.at.returns-then-add c).Else-is_full, end)) c.if-add.true c.add.ensures.0
+    add_done _ _ _ _ _ c.requires.0 c.requires.1 (omega (arith, room (goal.at.returns-then-add c).Else-is_full, end)) c.if-add.true
+    c.add.ensures.0
     c.add.ensures.1
 
 pub returns-else-add : goal.returns-else-add
 returns-else-add c =
     let end = c.requires.2 in
-    add_done _ _ _ _ _ c.requires.0 c.requires.1 (omega (arith, room (goal.at.returns-else-add c).Else-is_full, end)) c.if-add.false c.add.ensures.0
+    add_done _ _ _ _ _ c.requires.0 c.requires.1 (omega (arith, room (goal.at.returns-else-add c).Else-is_full, end)) c.if-add.false
+    c.add.ensures.0
     c.add.ensures.1

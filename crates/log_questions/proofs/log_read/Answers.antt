@@ -33,7 +33,8 @@ returns-in_default-latest c =
 
 pub returns-then-out-count : goal.returns-then-out-count
 returns-then-out-count c =
-    read-room _ _ _ (sound (goal.at.returns-then-out-count c).In_default) _ _ _ (found (goal.at.returns-then-out-count c).In-At) c.if-out-count.true
+    read-room _ _ _ (sound (goal.at.returns-then-out-count c).In_default) _ _ _ (found (goal.at.returns-then-out-count c).In-At)
+    c.if-out-count.true
 
 pub decode-requires : goal.decode-requires
 decode-requires c = ((found (goal.at.decode-requires c).In-At).inside, omega (arith, c.if-out-count.false))

@@ -122,7 +122,8 @@ module _ (ps : List Point) (s : IsShape ps) (long : 2 < length ps) (e : ℕ) (h 
 
 pub facing-width : {ps : List Point} {e c : ℕ} → width_edge ps ≡ e → Facing ps e c → width_corner ps ≡ c
 unfolding width_corner
-facing-width {ps} {e} {c} best f = rw best (first-unique (λ k. le_z (height ps e) (edge_turn ps e k)) (length ps) c (omega (arith, f.within))
+facing-width {ps} {e} {c} best f = rw best
+    (first-unique (λ k. le_z (height ps e) (edge_turn ps e k)) (length ps) c (omega (arith, f.within))
     (λ q. le-le_z (le_of_eq (sym f.has))) (λ k l. lt-le_z (contra< (λ g. f.sole k l (le_antisym (height-above ps e k (below k l)) g)))))
   where
     below : (k : ℕ) → k < c → k < length ps

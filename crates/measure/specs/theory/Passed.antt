@@ -1,7 +1,8 @@
 -- An edge that the half walk passes: the corner at hand on the other chain has the greatest turn against it.
 --     turn-right, turn-left     it has, against an edge of the right-hand chain and of the left-hand one
 --     facing-first, -before, -here     the first corner of greatest turn: corner 0, or the one before a given one, or that itself
-use Rattle.std.specs.Prelude.{◌≡◌, refl, Bool, true, false, not, cond, List, [], ◌∷◌, ◌⊎◌, ℕ, ◌+◌, ◌-◌, ◌≤◌, ◌<◌, eqb, ltb, pos, length, ◌≤ℤ◌, ◌<ℤ◌}
+use Rattle.std.specs.Prelude.{◌≡◌, refl, Bool, true, false, not, cond, List, [], ◌∷◌, ◌⊎◌, ℕ, ◌+◌, ◌-◌, ◌≤◌, ◌<◌, eqb, ltb, pos, length}
+use Rattle.std.specs.Prelude.{◌≤ℤ◌, ◌<ℤ◌}
 use Rattle.std.proofs.Common.{sym, ◌∙◌, ap, subst, inl, inr, arith, below_more, ltb-true, ltb-false}
 use Rattle.integer.specs.Linear.{lia, linear, ◌&◌}
 use Rattle.integer.specs.Order.{lt-or-le, weaken, le_of_eq, le_antisym, le-lt_z}

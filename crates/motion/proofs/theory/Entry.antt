@@ -53,7 +53,8 @@ module _ (a b : ℤ) where
       go false p true q = record {
         begun = weaken (le_z-false {x = a} {y = pos 0} p);
         ended = lia (a ∷ b ∷ []) (le_z-true {x = b} {y = pos 0} q) (search linear depth 40) (omega arith);
-        whole = lia (a ∷ b ∷ []) (le_z-false {x = a} {y = pos 0} p & le_z-true {x = b} {y = pos 0} q) (search linear depth 40) (omega arith);
+        whole = lia (a ∷ b ∷ []) (le_z-false {x = a} {y = pos 0} p & le_z-true {x = b} {y = pos 0} q) (search linear depth 40)
+            (omega arith);
       }
       go false p false q = record { begun = record { le = tt }; ended = record { le = tt }; whole = record { lt = tt } }
 

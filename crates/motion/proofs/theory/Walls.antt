@@ -117,7 +117,8 @@ module _ (k : ℤ) (above : pos 0 <ℤ k) where
 
   -- a polygon, by its edges alone
   pub edges→inside : (G : List Point) (x : Point) → IsShape G → 2 < length G
-      → ((i : ℕ) → i < length G → value (edge_normal G i) x ≤ℤ (k *ℤ support (edge_normal G i) G)) → inside (x ∷ []) (map (times k) G) ≡ true
+      → ((i : ℕ) → i < length G → value (edge_normal G i) x ≤ℤ (k *ℤ support (edge_normal G i) G)) → inside (x ∷ []) (map (times k) G) ≡
+      true
   edges→inside G x s three held = polygon-left→inside (map (times k) G) (scaled-shape k above G s) x (rw count three)
       (λ e h. rw (count, scaled-corner k G e, scaled-corner k G (next (length G) e)) (left e (rw count at h)))
     where

@@ -90,7 +90,8 @@ returns-then-is_passed c =
     let far = c.is_passed.ensures c.if-is_passed.true (points args.list.now) pre.1.shape pre.4 in (
       onward-passed pre.0 (stated-here (goal.at.returns-then-is_passed c).After-decode-arg-1) args.floor args.but (points args.list.now)
           args.best pre.1.shape (asked (goal.at.returns-then-is_passed c).After-buffer-1)
-          (subst (λ l. is_nearer (distance (points args.list.now) (points l)) args.best ≡ false) (decoded (goal.at.returns-then-is_passed c).After-buffer-1) far),
+          (subst (λ l. is_nearer (distance (points args.list.now) (points l)) args.best ≡ false)
+          (decoded (goal.at.returns-then-is_passed c).After-buffer-1) far),
       decoded-length (goal.at.returns-then-is_passed c).After-buffer-1,
     )
 
@@ -109,7 +110,8 @@ pub returns : goal.returns
 returns c =
     let args = c.args in
     let pre = c.requires in
-    let spaced = c.between.ensures ∙ ap (λ l. clearance_numbers (points args.list.now) (points l)) (decoded (goal.at.returns c).After-buffer-1) in (
+    let spaced = c.between.ensures ∙ ap (λ l. clearance_numbers (points args.list.now) (points l))
+    (decoded (goal.at.returns c).After-buffer-1) in (
       subst (Onward (points args.list.now) args.floor args.but args.log.now args.p args.best)
           (sym c.kept.ensures)
           (onward-kept pre.0 (stated-here (goal.at.returns c).After-decode-arg-1) args.floor args.but (points args.list.now)

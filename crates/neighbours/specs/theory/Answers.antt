@@ -77,7 +77,8 @@ module _ (b : List ℕ) (l : List ℤ) (f but : ℕ) (v : Valid l) (w : List ℕ
   module _ (n g : ℕ) (S : List ℤ) (k : ℕ) (done : is_finished (added b n g S k).reply ≡ true) (name-fits : n < 65536)
       (floor-fits : g < 65536) (other : name w ≡ n → ⊥) where
     pub finished-answer : reply (ask_nearest (added b n g S k).log l f but)
-        ≡ cond (is_closer A f but w n g S) (answered (pos n ∷ clearance_numbers A (points S) ++ (pos f ∷ []))) (reply (ask_nearest b l f but))
+        ≡ cond (is_closer A f but w n g S) (answered (pos n ∷ clearance_numbers A (points S) ++ (pos f ∷ [])))
+        (reply (ask_nearest b l f but))
     finished-answer =
         nearest-answered (added b n g S k).log l f but v (finished-sound b n g S k done)
         (cond (is_closer A f but w n g S) (recorded n g S) w)

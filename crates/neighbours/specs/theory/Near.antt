@@ -30,7 +30,8 @@ module _ (A : List Point) (s : IsShape A) where
   unfolding is_as_near
   near-total x y w v h = more-no_more (distance A (shape_of x)) (distance A (shape_of y)) h
 
-  pub near-trans : (x y z : List ℕ) → Whole x → Whole y → Whole z → is_as_near A x y ≡ true → is_as_near A y z ≡ true → is_as_near A x z ≡ true
+  pub near-trans : (x y z : List ℕ) → Whole x → Whole y → Whole z → is_as_near A x y ≡ true → is_as_near A y z ≡ true → is_as_near A x z ≡
+      true
   unfolding is_as_near
   near-trans x y z w v u h k = no_more-trans (distance A (shape_of x)) (distance A (shape_of y)) (distance A (shape_of z))
       (distance-whole A (shape_of x) s w) (distance-whole A (shape_of y) s v) (distance-whole A (shape_of z) s u) h k

@@ -94,7 +94,8 @@ module _ (A : List Point) (s : IsShape A) where
     stays b e =
         record { one = b.one; shape = b.shape; name-is = b.name-is; spacing-is = b.spacing-is; still = next b e }
 
-    pub still-passed : (best : Near) → Still A all best (y ∷ rest) → is_nearer (distance A (shape_of y)) best ≡ false → Still A all best rest
+    pub still-passed : (best : Near) → Still A all best (y ∷ rest) → is_nearer (distance A (shape_of y)) best ≡ false → Still A all best
+        rest
     still-passed Near.Nobody b e = absurd (true≢false e)
     still-passed (Near.Of m t) b e = stays b (far (not-false _ e))
       where

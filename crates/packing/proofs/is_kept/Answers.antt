@@ -30,7 +30,8 @@ returns-then-pair_at-but c =
     let args = c.args in
     let b = args.old.now in
     let later = held (name (record_at b args.p)) (records (drop (next_at b args.p) b)) in
-    sym (ap (λ (t : Bool). not t && not later) (eq-eqb _ args.but (name-read (goal.at.returns-then-pair_at-but c).After-pair_at ∙ c.if-pair_at-but.true)))
+    sym (ap (λ (t : Bool). not t && not later)
+    (eq-eqb _ args.but (name-read (goal.at.returns-then-pair_at-but c).After-pair_at ∙ c.if-pair_at-but.true)))
 
 pub returns : goal.returns
 unfolding is_other
@@ -39,4 +40,5 @@ returns c =
     let b = args.old.now in
     let later = held (name (record_at b args.p)) (records (drop (next_at b args.p) b)) in
     c.is_latest.ensures
-    ∙ sym (ap (λ (t : Bool). not t && not later) (ne_eqb _ args.but (λ e. c.if-pair_at-but.false (sym (name-read (goal.at.returns c).After-pair_at) ∙ e))))
+    ∙ sym (ap (λ (t : Bool). not t && not later)
+    (ne_eqb _ args.but (λ e. c.if-pair_at-but.false (sym (name-read (goal.at.returns c).After-pair_at) ∙ e))))

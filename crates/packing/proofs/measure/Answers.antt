@@ -54,13 +54,17 @@ overflow_add-n c =
     omega (arith, measured-fits c.loop-next.invariant.0 (here (goal.at.overflow_add-n c).In-loop-next) c.next_at-next.ensures kept)
 
 pub loop-next-smaller-then-is_kept : goal.loop-next-smaller-then-is_kept
-loop-next-smaller-then-is_kept c = omega (arith, c.next_at-next.ensures, inside (goal.at.loop-next-smaller-then-is_kept c).After-next_at-next)
+loop-next-smaller-then-is_kept c = omega
+    (arith, c.next_at-next.ensures, inside (goal.at.loop-next-smaller-then-is_kept c).After-next_at-next)
 
 pub loop-next-preserved-then-is_kept : goal.loop-next-preserved-then-is_kept
 loop-next-preserved-then-is_kept c =
     let inv = c.loop-next.invariant.0 in
-    let kept = sym c.is_kept.ensures ∙ c.if-is_kept.true in
-    (measured-kept inv (here (goal.at.loop-next-preserved-then-is_kept c).In-loop-next) c.next_at-next.ensures kept, marked (goal.at.loop-next-preserved-then-is_kept c).After-next_at-next)
+    let kept = sym c.is_kept.ensures ∙ c.if-is_kept.true in (
+      measured-kept inv (here (goal.at.loop-next-preserved-then-is_kept c).In-loop-next) c.next_at-next.ensures kept,
+      marked
+          (goal.at.loop-next-preserved-then-is_kept c).After-next_at-next,
+    )
 
 pub loop-next-smaller : goal.loop-next-smaller
 loop-next-smaller c = omega (arith, c.next_at-next.ensures, inside (goal.at.loop-next-smaller c).After-next_at-next)
@@ -68,8 +72,11 @@ loop-next-smaller c = omega (arith, c.next_at-next.ensures, inside (goal.at.loop
 pub loop-next-preserved : goal.loop-next-preserved
 loop-next-preserved c =
     let inv = c.loop-next.invariant.0 in
-    let skipped = sym c.is_kept.ensures ∙ c.if-is_kept.false in
-    (measured-skipped inv (here (goal.at.loop-next-preserved c).In-loop-next) c.next_at-next.ensures skipped, marked (goal.at.loop-next-preserved c).After-next_at-next)
+    let skipped = sym c.is_kept.ensures ∙ c.if-is_kept.false in (
+      measured-skipped inv (here (goal.at.loop-next-preserved c).In-loop-next) c.next_at-next.ensures skipped,
+      marked
+          (goal.at.loop-next-preserved c).After-next_at-next,
+    )
 
 pub returns : goal.returns
 returns c =

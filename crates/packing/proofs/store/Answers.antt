@@ -76,9 +76,11 @@ loop-next-smaller-then-is_kept c =
 
 pub loop-next-preserved-then-is_kept : goal.loop-next-preserved-then-is_kept
 loop-next-preserved-then-is_kept c = (
-  packs-copy c.loop-next.invariant.0 (here (goal.at.loop-next-preserved-then-is_kept c).In-loop-next) (sym c.is_kept.ensures ∙ c.if-is_kept.true)
+  packs-copy c.loop-next.invariant.0 (here (goal.at.loop-next-preserved-then-is_kept c).In-loop-next)
+      (sym c.is_kept.ensures ∙ c.if-is_kept.true)
       c.next_at-next.ensures c.copy-need.ensures,
-  subst (Marked _ _) (sym c.next_at-next.ensures) (marked_next c.loop-next.invariant.1 (here (goal.at.loop-next-preserved-then-is_kept c).In-loop-next)),
+  subst (Marked _ _) (sym c.next_at-next.ensures)
+      (marked_next c.loop-next.invariant.1 (here (goal.at.loop-next-preserved-then-is_kept c).In-loop-next)),
 )
 
 pub loop-next-smaller : goal.loop-next-smaller

@@ -4,8 +4,10 @@
 --     copied-length, copied-few         the run stays as long as it is; as many stores as bytes are needed at most
 --     copied-rest                       what comes after the bytes stays
 --     copied_more, copied-zero          the moves of the two loops: one byte more
-use Rattle.std.specs.Prelude.{◌≡◌, Bool, cond, List, [], ◌∷◌, ◌++◌, ℕ, zero, suc, ◌+◌, ◌-◌, ◌≤◌, ◌<◌, length, get_or, take, drop, set, replicate}
-use Rattle.std.proofs.Common.{sym, ◌∙◌, ap, ap₂, subst, append-nil, not-suc-le-zero, arith, eq-eqb, ne_eqb, length-append, length-drop, take-suc, drop-cons, drop-drop, length-take-le}
+use Rattle.std.specs.Prelude.{◌≡◌, Bool, cond, List, [], ◌∷◌, ◌++◌, ℕ, zero, suc, ◌+◌, ◌-◌, ◌≤◌, ◌<◌, length, get_or, take, drop, set}
+use Rattle.std.specs.Prelude.{replicate}
+use Rattle.std.proofs.Common.{sym, ◌∙◌, ap, ap₂, subst, append-nil, not-suc-le-zero, arith, eq-eqb, ne_eqb, length-append, length-drop}
+use Rattle.std.proofs.Common.{take-suc, drop-cons, drop-drop, length-take-le}
 use Rattle.std.proofs.lemmas.List.{length-replicate, replicate-append-replicate}
 use Rattle.std.proofs.Math.Seq.{take-nil}
 use Rattle.journal.specs.Adding.{Store, store, made}

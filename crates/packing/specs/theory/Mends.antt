@@ -6,7 +6,8 @@
 --     mends-equal, mends-none   no store is needed exactly if the bytes are the wanted ones
 --     mends-all                 all of them made: the wanted bytes
 use Rattle.std.specs.Prelude.{◌≡◌, refl, Bool, true, false, cond, List, [], ◌∷◌, ◌++◌, ℕ, zero, suc, ◌+◌, ◌≤◌, eqb, length, take, drop}
-use Rattle.std.proofs.Common.{sym, ◌∙◌, ap, ap₂, append_assoc, arith, eqb-true, eq-eqb, length-append, length-drop, take-append-drop, drop_at, drop-drop, length-take-le}
+use Rattle.std.proofs.Common.{sym, ◌∙◌, ap, ap₂, append_assoc, arith, eqb-true, eq-eqb, length-append, length-drop, take-append-drop}
+use Rattle.std.proofs.Common.{drop_at, drop-drop, length-take-le}
 use Rattle.std.proofs.Math.Seq.{append_snoc, take-nil, drop-nil}
 use Rattle.std.proofs.lemmas.List.{set_at}
 use Rattle.journal.specs.Adding.{Store, store, made}

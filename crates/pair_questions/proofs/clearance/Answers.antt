@@ -48,9 +48,11 @@ known c e = let args = c.args in
 -- the answer
 answers : (c : After-between) {vs : List ℤ} →
     vs ≡ clearance_numbers (points c.args.a.now) (points c.args.b.now)
-    → answered (vs ++ (pos c.args.f ∷ [])) ≡ reply (ask_clearance (one (goal.at.After-between c).Start) (other (goal.at.After-between c).Start))
+    → answered (vs ++ (pos c.args.f ∷ [])) ≡ reply
+    (ask_clearance (one (goal.at.After-between c).Start) (other (goal.at.After-between c).Start))
 answers c e =
-    all-answered (ask_clearance (one (goal.at.After-between c).Start) (other (goal.at.After-between c).Start)) (shapes (goal.at.After-between c).In_default) tt
+    all-answered (ask_clearance (one (goal.at.After-between c).Start) (other (goal.at.After-between c).Start))
+    (shapes (goal.at.After-between c).In_default) tt
     (ap (λ (vs : List ℤ). vs ++ (pos c.args.f ∷ [])) e)
 
 pub returns-in-Meets : goal.returns-in-Meets

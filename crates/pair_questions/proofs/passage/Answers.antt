@@ -33,7 +33,8 @@ abbrev asked : Start → Question
 asked c = ask_passage (one c) (two c) (three c)
 
 -- past the judging they are shapes on one floor, and then each grown obstacle is a shape too
-shapes : (c : In_default) → SameThree (one (goal.at.In_default c).Start) (two (goal.at.In_default c).Start) (three (goal.at.In_default c).Start)
+shapes : (c : In_default) → SameThree (one (goal.at.In_default c).Start) (two (goal.at.In_default c).Start)
+    (three (goal.at.In_default c).Start)
 shapes c = c.admit_three.ensures.valid c.in_default.is
 
 left : (c : In_default-admit_grown) → let args = c.args in
@@ -46,7 +47,9 @@ right c = c.admit_grown-2.ensures.valid c.in_default-admit_grown-2.is
 
 pub returns-in-No : goal.returns-in-No
 returns-in-No c =
-    (rest-refused (asked (goal.at.returns-in-No c).Start) tt (refuses-append (grown_rows (one (goal.at.returns-in-No c).Start) (two (goal.at.returns-in-No c).Start) (three (goal.at.returns-in-No c).Start))
+    (rest-refused (asked (goal.at.returns-in-No c).Start) tt
+    (refuses-append (grown_rows (one (goal.at.returns-in-No c).Start) (two (goal.at.returns-in-No c).Start)
+    (three (goal.at.returns-in-No c).Start))
     (c.admit_three.ensures.no _ c.in-No.is))).0
 
 pub admit_grown-requires : goal.admit_grown-requires
@@ -54,7 +57,9 @@ admit_grown-requires c = let all = shapes c in (all.first-valid, all.third-valid
 
 pub returns-in-No-admit_grown : goal.returns-in-No-admit_grown
 returns-in-No-admit_grown c =
-    (rest-refused (asked (goal.at.returns-in-No-admit_grown c).Start) tt (refuses-join (three_rows (one (goal.at.returns-in-No-admit_grown c).Start) (two (goal.at.returns-in-No-admit_grown c).Start) (three (goal.at.returns-in-No-admit_grown c).Start)) (three→none _ _ _ (shapes (goal.at.returns-in-No-admit_grown c).In_default))
+    (rest-refused (asked (goal.at.returns-in-No-admit_grown c).Start) tt
+    (refuses-join (three_rows (one (goal.at.returns-in-No-admit_grown c).Start) (two (goal.at.returns-in-No-admit_grown c).Start)
+    (three (goal.at.returns-in-No-admit_grown c).Start)) (three→none _ _ _ (shapes (goal.at.returns-in-No-admit_grown c).In_default))
     (refuses-append (size_rows (grown (points c.args.right.now) (points c.args.cart.now)))
     (c.admit_grown.ensures.no _ c.in-No-admit_grown.is)))).0
 
@@ -63,8 +68,11 @@ admit_grown-requires-2 c = let all = shapes (goal.at.admit_grown-requires-2 c).I
 
 pub returns-in-No-admit_grown-2 : goal.returns-in-No-admit_grown-2
 returns-in-No-admit_grown-2 c =
-    (rest-refused (asked (goal.at.returns-in-No-admit_grown-2 c).Start) tt (refuses-join (three_rows (one (goal.at.returns-in-No-admit_grown-2 c).Start) (two (goal.at.returns-in-No-admit_grown-2 c).Start) (three (goal.at.returns-in-No-admit_grown-2 c).Start)) (three→none _ _ _ (shapes (goal.at.returns-in-No-admit_grown-2 c).In_default))
-    (refuses-join (size_rows (grown (points c.args.left.now) (points c.args.cart.now))) (left (goal.at.returns-in-No-admit_grown-2 c).In_default-admit_grown)
+    (rest-refused (asked (goal.at.returns-in-No-admit_grown-2 c).Start) tt
+    (refuses-join (three_rows (one (goal.at.returns-in-No-admit_grown-2 c).Start) (two (goal.at.returns-in-No-admit_grown-2 c).Start)
+    (three (goal.at.returns-in-No-admit_grown-2 c).Start)) (three→none _ _ _ (shapes (goal.at.returns-in-No-admit_grown-2 c).In_default))
+    (refuses-join (size_rows (grown (points c.args.left.now) (points c.args.cart.now)))
+    (left (goal.at.returns-in-No-admit_grown-2 c).In_default-admit_grown)
     (c.admit_grown-2.ensures.no _ c.in-No-admit_grown-2.is)))).0
 
 pub between-requires : goal.between-requires
@@ -80,4 +88,6 @@ between-requires c =
 pub returns : goal.returns
 returns c =
     c.passed.ensures ∙ ap (λ (vs : List ℤ). answered (vs ++ (pos c.args.f ∷ []))) c.between.ensures
-    ∙ sym (passage-answers (one (goal.at.returns c).Start) (two (goal.at.returns c).Start) (three (goal.at.returns c).Start) (shapes (goal.at.returns c).In_default) (left (goal.at.returns c).In_default-admit_grown) (right (goal.at.returns c).In_default-admit_grown-2))
+    ∙ sym (passage-answers (one (goal.at.returns c).Start) (two (goal.at.returns c).Start) (three (goal.at.returns c).Start)
+    (shapes (goal.at.returns c).In_default) (left (goal.at.returns c).In_default-admit_grown)
+    (right (goal.at.returns c).In_default-admit_grown-2))

@@ -30,5 +30,6 @@ relation-requires c = let both = shapes c in (both.first-valid, both.second-vali
 
 pub returns : goal.returns
 returns c =
-    c.relation_of.ensures ∙ all-answered (ask_relation (one (goal.at.returns c).Start) (other (goal.at.returns c).Start)) (shapes (goal.at.returns c).In_default) tt
+    c.relation_of.ensures ∙ all-answered (ask_relation (one (goal.at.returns c).Start) (other (goal.at.returns c).Start))
+    (shapes (goal.at.returns c).In_default) tt
     (ap (λ (z : ℤ). z ∷ pos c.args.f ∷ []) c.relation.ensures)

@@ -50,7 +50,8 @@ is_far-requires c = let both = shapes (goal.at.is_far-requires c).In_default in 
 
 pub returns-in-No-fits : goal.returns-in-No-fits
 returns-in-No-fits c =
-    rest-refused (asked (goal.at.returns-in-No-fits c).Start) (shapes (goal.at.returns-in-No-fits c).In_default) ((judged (goal.at.returns-in-No-fits c).After-fits).no _ c.in-No-fits.is)
+    rest-refused (asked (goal.at.returns-in-No-fits c).Start) (shapes (goal.at.returns-in-No-fits c).In_default)
+    ((judged (goal.at.returns-in-No-fits c).After-fits).no _ c.in-No-fits.is)
 
 -- past this judging no row applies
 passed : (c : In_default-fits) → let args = c.args in

@@ -88,6 +88,7 @@ line-reverse-requires c =
 
 pub returns : goal.returns
 returns c =
-    all-answered (ask_tangents (one (goal.at.returns c).Start) (other (goal.at.returns c).Start)) (shapes (goal.at.returns c).In_default) (ap not (ready (goal.at.returns c).In-Apart).2, tt)
+    all-answered (ask_tangents (one (goal.at.returns c).Start) (other (goal.at.returns c).Start)) (shapes (goal.at.returns c).In_default)
+    (ap not (ready (goal.at.returns c).In-Apart).2, tt)
     (tangents-values (one (goal.at.returns c).Start) (other (goal.at.returns c).Start) c.line-left.ensures c.line-right.ensures
     c.line-crossing.ensures c.line-reverse.ensures)

@@ -83,5 +83,6 @@ corridor-requires c = (
 pub returns : goal.returns
 returns c =
     let pre = c.requires in
-    c.corridor.ensures ∙ ap₂ corridor_numbers (front-points (above c.before.before.before.before.before.before.before)) (front-points (below c.before.before.before.before))
+    c.corridor.ensures ∙ ap₂ corridor_numbers (front-points (above c.before.before.before.before.before.before.before))
+    (front-points (below c.before.before.before.before))
     ∙ corridor-passage _ _ _ pre.0.shape.some pre.1.shape.some pre.2.shape.some

@@ -51,7 +51,8 @@ module _ (L R A M S C : List Point) (l : 0 < length L) (r : 0 < length R) (a : 0
         let g = apart→gap (grown L A) (grown R A) (grown-some L A l a) (grown-some R A r a) h in
         let d = g.direction in
         gap→apart (grown M C) (grown S C) (grown-some M C m c) (grown-some S C s c) d
-        (lia (gap_in d (grown L A) (grown R A) ∷ gap_in d (grown M C) (grown S C) ∷ gap_in d L R ∷ spread d A ∷ gap_in d M S ∷ spread d C ∷ [])
+        (lia (gap_in d (grown L A) (grown R A) ∷ gap_in d (grown M C) (grown S C) ∷ gap_in d L R ∷ spread d A ∷ gap_in d M S ∷ spread d C ∷
+        [])
         (g.wide & grown-gap L R A l r a d & grown-gap M S C m s c d & smaller-gap d) (search linear depth 40) (omega arith))
 
     abbrev n : Point

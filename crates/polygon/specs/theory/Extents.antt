@@ -3,7 +3,8 @@
 --     mirrored-start, -more, -end        the same of the opposites
 --     extends-small                      its points may be added
 --     far-sum                            a sum is out of range exactly if one of the two sums of the highest points is
-use Rattle.std.specs.Prelude.{◌≡◌, refl, Bool, true, false, ◌||◌, List, [], ◌∷◌, ◌++◌, ◌⊎◌, ℕ, ◌+◌, ◌^◌, ◌≤◌, ◌<◌, ℤ, pos, neg_ℤ, ◌+ℤ◌, length, take, ◌≤ℤ◌}
+use Rattle.std.specs.Prelude.{◌≡◌, refl, Bool, true, false, ◌||◌, List, [], ◌∷◌, ◌++◌, ◌⊎◌, ℕ, ◌+◌, ◌^◌, ◌≤◌, ◌<◌, ℤ, pos, neg_ℤ, ◌+ℤ◌}
+use Rattle.std.specs.Prelude.{length, take, ◌≤ℤ◌}
 use Rattle.std.proofs.Math.Path.{sym, ap₂}
 use Rattle.std.proofs.Common.{◌∙◌, ap, subst, inl, inr, le_trans, add-one, arith, lit≤, take-suc, take_all, length-take-le}
 use Rattle.std.proofs.lemmas.List.{length-map}

@@ -122,7 +122,8 @@ loop-s-smaller c =
     let args = c.args in
     let E = edges (points args.a.now) in
     let F = edges (points (image args.b.now)) in
-    edges-less E F _ _ (first_step c.before.before.before.before.before) (second-step c.before.before.before.before.before) (λ h k. c.if-s-t.false (omega (
+    edges-less E F _ _ (first_step c.before.before.before.before.before) (second-step c.before.before.before.before.before)
+    (λ h k. c.if-s-t.false (omega (
       arith,
       image-sides c.side_at-s.ensures.1
           c.side_at-t.ensures.1,

@@ -36,7 +36,8 @@ pub open_count-requires : goal.open_count-requires
 open_count-requires c = (counted _ (row-1 c)).0
 
 pub returns-then-exceeds_points : goal.returns-then-exceeds_points
-returns-then-exceeds_points c = turns-away (refuses (later (row-1 c.before.before.before) (here (sym (told-2 c.before) ∙ c.if-exceeds_points.true))))
+returns-then-exceeds_points c = turns-away
+    (refuses (later (row-1 c.before.before.before) (here (sym (told-2 c.before) ∙ c.if-exceeds_points.true))))
 
 pub returns-then-some_outside : goal.returns-then-some_outside
 returns-then-some_outside c =

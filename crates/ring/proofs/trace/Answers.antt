@@ -36,7 +36,8 @@ distinct-m-requires c =
 
 pub slice_bounds-corners-end-2 : goal.slice_bounds-corners-end-2
 slice_bounds-corners-end-2 c =
-    (found (goal.at.slice_bounds-corners-end-2 c).After-distinct-m).counted ∙ ap length (sym (found (goal.at.slice_bounds-corners-end-2 c).After-distinct-m).front)
+    (found (goal.at.slice_bounds-corners-end-2 c).After-distinct-m).counted ∙ ap length
+    (sym (found (goal.at.slice_bounds-corners-end-2 c).After-distinct-m).front)
 
 pub corners-requires : goal.corners-requires
 corners-requires c =

@@ -24,7 +24,8 @@ two-each c =
 
 length-kept : (c : At-loop-k) → length c.loop-k.out ≡ length c.args.out.now
 length-kept c =
-    filled-length c.loop-k.invariant.0 (omega (arith, two-each (goal.at.At-loop-k c).Start, c.loop-k.invariant.1)) (omega (arith, c.requires.1, c.loop-k.invariant.1))
+    filled-length c.loop-k.invariant.0 (omega (arith, two-each (goal.at.At-loop-k c).Start, c.loop-k.invariant.1))
+    (omega (arith, c.requires.1, c.loop-k.invariant.1))
 
 pub offset_bounds-places-k : goal.offset_bounds-places-k
 offset_bounds-places-k c = omega arith
@@ -54,7 +55,8 @@ loop-k-preserved c =
     let at = c.corner_at.ensures ∙ sym (map_at f c.args.places.now k c.loop-k-test.true) in (
       subst (λ (out : List ℤ). Filled c.args.out.now (numbers ps) (2 * (k + 1)) out) (sym c.put.ensures)
           (filled-corner ps k c.loop-k.invariant.0 (omega (arith, c.loop-k-test.true, length-map c.args.places.now f))
-          (omega (arith, two-each (goal.at.loop-k-preserved c).Start, c.requires.1)) (ap (λ (p : Point). p.x) at) (ap (λ (p : Point). p.y) at)),
+          (omega (arith, two-each (goal.at.loop-k-preserved c).Start, c.requires.1)) (ap (λ (p : Point). p.x) at)
+          (ap (λ (p : Point). p.y) at)),
       omega (arith, c.loop-k-test.true),
     )
 

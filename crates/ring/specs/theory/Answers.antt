@@ -38,7 +38,8 @@ module _ (l out : List ℤ) (v : ValidRing l) where
   none-inward h =
       none-some (inward_at (points l) is) (length is) (λ i k. first-least (inward_at (points l) is) (length is) i (omega arith))
 
-  pub inward-refuses : at < length is → Refuses (ring_rows l out) (refused 4 (1 ∷ get_or is (previous (length is) at) 0 ∷ get_or is at 0 ∷ []))
+  pub inward-refuses : at < length is → Refuses (ring_rows l out)
+      (refused 4 (1 ∷ get_or is (previous (length is) at) 0 ∷ get_or is at 0 ∷ []))
   inward-refuses h = refuses-join (list_rows l) (ring→accepted l v) (refuses (here (some-inward h)))
 
   module _ (quiet : some (inward_at (points l) is) (length is) ≡ false) where

@@ -3,7 +3,8 @@
 --     sense-walked      the same read onwards or backwards
 --     arranged-ring     these points are the corners of the ring
 --     arranged-front    and so they are at the front of a buffer
-use Rattle.std.specs.Prelude.{◌≡◌, refl, Bool, true, false, cond, List, [], ◌∷◌, map, reverse, ℕ, zero, suc, ◌+◌, ◌*◌, ◌-◌, ◌<◌, ℤ, length, get_or, take}
+use Rattle.std.specs.Prelude.{◌≡◌, refl, Bool, true, false, cond, List, [], ◌∷◌, map, reverse, ℕ, zero, suc, ◌+◌, ◌*◌, ◌-◌, ◌<◌, ℤ, length}
+use Rattle.std.specs.Prelude.{get_or, take}
 use Rattle.std.proofs.Common.{sym, ◌∙◌, ap, subst, arith}
 use Rattle.std.proofs.lemmas.List.{reverse-reverse, length-map}
 use Rattle.integer.specs.Linear.{linear, lia, ◌&◌}
@@ -73,7 +74,8 @@ other_way x (y ∷ (z ∷ zs)) s =
     (shape→ordered (x ∷ r) s).0
     ∙ shape-is-own-ring (x ∷ r) s
 
-pub arranged-ring : (ps : List Point) (back : Bool) → IsShape (in_sense back (from_least ps)) → ring_shape ps ≡ in_sense back (from_least ps)
+pub arranged-ring : (ps : List Point) (back : Bool) → IsShape (in_sense back (from_least ps)) → ring_shape ps ≡ in_sense back
+    (from_least ps)
 arranged-ring ps back s = go (from_least ps) refl back s
   where
     listed : (x : Point) (r : List Point) → from_least ps ≡ x ∷ r → All (λ y. Precedes x y) r → ring_shape ps ≡ ring_shape (x ∷ r)
@@ -97,7 +99,8 @@ module _ (ps : List Point) (n s : ℕ) (back : Bool) (all : n ≡ length (open_r
   as-points =
       ap (λ (t : ℕ). map (corner ps) (in_sense back (walked n t n))) start
       ∙ ap (λ (m : ℕ). map (corner ps) (in_sense back (walked m (least_place (corner ps) m) m))) all
-      ∙ map-sense (corner ps) back (walked (length (open_ring ps)) (least_place (corner ps) (length (open_ring ps))) (length (open_ring ps)))
+      ∙ map-sense (corner ps) back
+      (walked (length (open_ring ps)) (least_place (corner ps) (length (open_ring ps))) (length (open_ring ps)))
 
   pub arranged-front : (old out : List ℤ) → out ≡ overwritten (numbers (map (corner ps) places)) old → IsShape (points (take (2 * n) out))
       → Front (ring_shape ps) n out × IsShape (ring_shape ps)

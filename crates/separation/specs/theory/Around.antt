@@ -2,7 +2,8 @@
 --     origin_in-inside         the numbers of `origin_in` say whether the origin is outside a shape, on its rim or inside
 --     origin_in-relation        of the differences of two lists: the relation
 --     refuted               a test that cannot pass
-use Rattle.std.specs.Prelude.{◌≡◌, refl, Bool, true, false, not, cond, ◌||◌, ◌&&◌, List, [], ◌∷◌, ℕ, ◌<◌, ltb, ℤ, pos, nat_abs, length, ◌≤ℤ◌}
+use Rattle.std.specs.Prelude.{◌≡◌, refl, Bool, true, false, not, cond, ◌||◌, ◌&&◌, List, [], ◌∷◌, ℕ, ◌<◌, ltb, ℤ, pos, nat_abs, length}
+use Rattle.std.specs.Prelude.{◌≤ℤ◌}
 use Rattle.std.proofs.Common.{◌∙◌, ap, arith, ltb-true, ltb-false}
 use Rattle.std.specs.Int.Signed.{le_z, clash_ℤ}
 use Rattle.integer.specs.Linear.{linear, lia, ◌&◌}

@@ -30,7 +30,8 @@ path-length p (e ∷ E) n h k = omega (arith, along-length p (e ∷ E))
 pub sum-length : (A B : List Point) → length (vector_sum A B) ≤ length A + length B
 sum-length [] B = zero-le
 sum-length (a ∷ A) [] = zero-le
-sum-length (a ∷ A) (b ∷ B) = path-length (a ⊕ b) (join_edges (edges (a ∷ A)) (edges (b ∷ B))) (length (a ∷ A) + length (b ∷ B)) (omega arith)
+sum-length (a ∷ A) (b ∷ B) = path-length (a ⊕ b) (join_edges (edges (a ∷ A)) (edges (b ∷ B))) (length (a ∷ A) + length (b ∷ B))
+    (omega arith)
     (omega (arith, join_edges-length (edges (a ∷ A)) (edges (b ∷ B)), edges-at-most (a ∷ A), edges-at-most (b ∷ B)))
 
 -- ---- a place of the walk, and the corner there

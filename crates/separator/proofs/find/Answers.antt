@@ -59,7 +59,8 @@ few c = omega (arith, (none c.before.before).1, c.if-sides-gt2.false)
 
 pub returns-then-is_on : goal.returns-then-is_on
 returns-then-is_on c =
-    not-apart-on _ _ c.requires.0 c.requires.1 (none c.before.before.before.before).0 (few c.before.before) (sym c.is_on.ensures ∙ c.if-is_on.true)
+    not-apart-on _ _ c.requires.0 c.requires.1 (none c.before.before.before.before).0 (few c.before.before)
+    (sym c.is_on.ensures ∙ c.if-is_on.true)
 
 pub first-requires : goal.first-requires
 first-requires c =
@@ -74,7 +75,8 @@ opposed : (c : After-opposite) →
 opposed c =
     subst (Outward _) (sym (c.opposite.ensures ∙ ap opposite c.first.ensures.result_value))
     (begun-away _ _ (image-begun _ _ c.requires.0 c.requires.1) (none c.before.before.before.before.before.before).0
-    (outside-few _ (none c.before.before.before.before.before.before).0 (few c.before.before.before.before) (sym c.is_on.ensures ∙ c.if-is_on.false)))
+    (outside-few _ (none c.before.before.before.before.before.before).0 (few c.before.before.before.before)
+    (sym c.is_on.ensures ∙ c.if-is_on.false)))
 
 pub named-requires-2 : goal.named-requires-2
 named-requires-2 c =

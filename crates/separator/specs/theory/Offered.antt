@@ -44,7 +44,8 @@ module _ (a b : Floored) where
           ∙ ap (λ (u : Bool). answered (cond u (pos 1) (pos 0) ∷ pos a.floor ∷ [])) h
 
     offered-test : (t : Bool) → Offered t → below d A B ≡ t
-    offered-test t h = go (below d A B) t (let e : cond t (pos 1) (pos 0) ≡ offer_number d A B = cc (asked-values (ask_offer a b d) _ h) in e)
+    offered-test t h = go (below d A B) t
+        (let e : cond t (pos 1) (pos 0) ≡ offer_number d A B = cc (asked-values (ask_offer a b d) _ h) in e)
       where
         go : (u t : Bool) → cond t (pos 1) (pos 0) ≡ cond u (pos 1) (pos 0) → u ≡ t
         go true true e = refl

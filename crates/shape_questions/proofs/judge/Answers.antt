@@ -25,4 +25,5 @@ returns-in-No c = (shapes-refused (asked (goal.at.returns-in-No c).Start)
 
 pub returns : goal.returns
 returns c =
-    all-answered (asked (goal.at.returns c).Start) (valid (goal.at.returns c).In_default) tt (ap (λ (n : ℕ). pos n ∷ pos c.args.floor ∷ []) c.count.ensures)
+    all-answered (asked (goal.at.returns c).Start) (valid (goal.at.returns c).In_default) tt
+    (ap (λ (n : ℕ). pos n ∷ pos c.args.floor ∷ []) c.count.ensures)

@@ -48,6 +48,7 @@ pub returns : goal.returns
 returns c =
     let v = valid (goal.at.returns c).In_default in
     let l = c.args.list.now in
-    all-written (asked (goal.at.returns c).Start) v (mirror-enough l v c.args.out.now (omega (arith, c.if-out-list.false, doubled (goal.at.returns c).In_default)))
+    all-written (asked (goal.at.returns c).Start) v
+    (mirror-enough l v c.args.out.now (omega (arith, c.if-out-list.false, doubled (goal.at.returns c).In_default)))
     (ap (λ (n : ℕ). pos n ∷ pos c.args.floor ∷ []) (c.count.ensures ∙ sym (mirror-count (points l) v.shape)))
     c.mirror.ensures

@@ -39,7 +39,13 @@ pair-left-requires c =
 
 pub pair-left-requires-2 : goal.pair-left-requires-2
 pair-left-requires-2 c =
-    omega (arith, inside (goal.at.pair-left-requires-2 c).Start, room-2 (goal.at.pair-left-requires-2 c).After-byte-left-2, ran-length c.pair-left.ensures)
+    omega (
+      arith,
+      inside (goal.at.pair-left-requires-2 c).Start,
+      room-2 (goal.at.pair-left-requires-2 c).After-byte-left-2,
+      ran-length
+          c.pair-left.ensures,
+    )
 
 pub pair-left-requires-3 : goal.pair-left-requires-3
 pair-left-requires-3 c =
@@ -47,7 +53,13 @@ pair-left-requires-3 c =
 
 pub words-left-requires : goal.words-left-requires
 words-left-requires c =
-    omega (arith, inside (goal.at.words-left-requires c).Start, room-4 (goal.at.words-left-requires c).After-pair-left-2, ran-length c.pair-left-3.ensures)
+    omega (
+      arith,
+      inside (goal.at.words-left-requires c).Start,
+      room-4 (goal.at.words-left-requires c).After-pair-left-2,
+      ran-length
+          c.pair-left-3.ensures,
+    )
 
 pub byte-requires : goal.byte-requires
 byte-requires c =

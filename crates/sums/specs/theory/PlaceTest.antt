@@ -190,7 +190,8 @@ module _ (a b : List ℤ) (v : Valid a) (w : Valid b) where
           place-known (suc c) l p q
           (over-advanced a b c ∙ all-passed (points a) (points b) _ _ s.left_in s.right-in (omega (arith, p, q)))
 
-      go : (c : ℕ) → c ≤ length (whole_sum a b) → (place_after a b c).i ≡ i → (place_after a b c).j ≡ j → is_place a b (state i j true) ≡ true
+      go : (c : ℕ) → c ≤ length (whole_sum a b) → (place_after a b c).i ≡ i → (place_after a b c).j ≡ j → is_place a b (state i j true) ≡
+          true
       go zero l p q = let s = (place-stands a b v w 1).standing in
           after 0 (more-to-come a b v w 0 l refl) (omega (arith, p, s.left_in)) (omega (arith, q, s.right-in))
       go (suc c) l p q = after c l p q

@@ -22,7 +22,8 @@ module _ (x y : Reading) (m n : ℤ) where
   unfolding tablet_reply
   corner-read h =
       let rows : NoneApply (corner_rows x y) = first_row-answered (corner_rows x y) (whole_number x ∷ whole_number y ∷ []) (m ∷ n ∷ []) h in
-      let same : answered (whole_number x ∷ whole_number y ∷ []) ≡ answered (m ∷ n ∷ []) = sym (first_row-none (corner_rows x y) _ rows) ∙ h in
+      let same : answered (whole_number x ∷ whole_number y ∷ []) ≡ answered (m ∷ n ∷ []) = sym (first_row-none (corner_rows x y) _ rows) ∙ h
+      in
       let first : whole_number x ≡ m = cc same in
       let second : whole_number y ≡ n = cc same in (
         passed-whole 1 x (rows.0, (rows.1.0, (rows.1.1.0, tt))) ∙ ap Whole first,

@@ -2,8 +2,11 @@
 --     fits-parts          what a double's digits and exponent are bounded by
 --     eighth-exact        a multiplication by 0.125, from magnitude 1 upward
 --     zero-exact          a double equals 0 exactly if its size is 0
-use Rattle.std.specs.Prelude.{◌≡◌, ℕ, zero, suc, ◌+◌, ◌-◌, ◌*◌, ◌%◌, ◌^◌, ◌<◌, ◌≤◌, Bool, true, false, ◌&&◌, ◌||◌, T, ℤ, pos, negsuc, ◌==◌, nat_eq, nat_le, nat_lt, refl, Float}
-use Rattle.std.proofs.Common.{sym, ap, ◌∙◌, subst, mul-one, zero-mul, mul_assoc, lt_of_le_of_lt, lt_of_lt_of_le, le_trans, not-le_of_lt, lt_of_not-le, le_of_suc-le-suc, le_refl, le_of_eq, mul-pos, arith, ltb→lt, leb→le, lit<, lit≤, pow-add, pow_pos, pow_mono, shl_lt}
+use Rattle.std.specs.Prelude.{◌≡◌, ℕ, zero, suc, ◌+◌, ◌-◌, ◌*◌, ◌%◌, ◌^◌, ◌<◌, ◌≤◌, Bool, true, false, ◌&&◌, ◌||◌, T, ℤ, pos, negsuc, ◌==◌}
+use Rattle.std.specs.Prelude.{nat_eq, nat_le, nat_lt, refl, Float}
+use Rattle.std.proofs.Common.{sym, ap, ◌∙◌, subst, mul-one, zero-mul, mul_assoc, lt_of_le_of_lt, lt_of_lt_of_le, le_trans, not-le_of_lt}
+use Rattle.std.proofs.Common.{lt_of_not-le, le_of_suc-le-suc, le_refl, le_of_eq, mul-pos, arith, ltb→lt, leb→le, lit<, lit≤, pow-add}
+use Rattle.std.proofs.Common.{pow_pos, pow_mono, shl_lt}
 use Rattle.std.specs.Bool.{beq}
 use Rattle.std.proofs.Math.Pow.{pow-lt}
 use Rattle.std.specs.Float.{nan, inf, fin, binary64}

@@ -3,8 +3,10 @@
 --     short-far             what passes 31 bits is out of range
 --     small-not-whole       0 < |v| < 1 in eighths
 --     scaled-same           scaled by 0.125 it is the same reading in millimetres, unless it is small
-use Rattle.std.specs.Prelude.{◌≡◌, ℕ, zero, suc, ◌*◌, ◌/◌, ◌%◌, ◌^◌, ◌<◌, ◌≤◌, Bool, true, false, cond, not, ◌&&◌, T, ltb, ℤ, negsuc, ◌==◌, nat_eq, nat_lt, unsigned_abs, refl, Float}
-use Rattle.std.proofs.Common.{sym, ap₂, ◌∙◌, mul-one, mul-pos, mod-eq_of_lt, lt_of_lt_of_le, lt_of_le_of_lt, le-div_iff_mul-le, arith, ltb-true, ltb-false, lt-ltb, ne_eqb, lit<}
+use Rattle.std.specs.Prelude.{◌≡◌, ℕ, zero, suc, ◌*◌, ◌/◌, ◌%◌, ◌^◌, ◌<◌, ◌≤◌, Bool, true, false, cond, not, ◌&&◌, T, ltb, ℤ, negsuc, ◌==◌}
+use Rattle.std.specs.Prelude.{nat_eq, nat_lt, unsigned_abs, refl, Float}
+use Rattle.std.proofs.Common.{sym, ap₂, ◌∙◌, mul-one, mul-pos, mod-eq_of_lt, lt_of_lt_of_le, lt_of_le_of_lt, le-div_iff_mul-le, arith}
+use Rattle.std.proofs.Common.{ltb-true, ltb-false, lt-ltb, ne_eqb, lit<}
 use Rattle.std.proofs.Math.Path.{ap}
 use Rattle.std.specs.Bool.{beq}
 use Rattle.std.proofs.Math.Bool.{and-eq-true_iff}
@@ -102,7 +104,8 @@ unfolding short truncated outside
 short-far v h =
     let high : 2 ^ 31 ≤ over v / under v = (le-div_iff_mul-le (under-pos v)).1 (ltb-false (over v) (2 ^ 31 * under v) h) in
     let low : max_coordinate < 2 ^ 31 = lt_of_le_of_lt coordinate-small (lit< tt) in
-    ap (ltb max_coordinate) (signed-size (negative v) (over v / under v)) ∙ lt-ltb max_coordinate (over v / under v) (lt_of_lt_of_le low high)
+    ap (ltb max_coordinate) (signed-size (negative v) (over v / under v)) ∙ lt-ltb max_coordinate (over v / under v)
+    (lt_of_lt_of_le low high)
 
 -- ---- eighths
 

@@ -6,8 +6,12 @@
 --     cuttable, whole-tested              below 2^53 the whole part against the double itself
 --     large-high, large-low               from 2^53 upward every double is whole
 --     castable, cast_is                   what the cast to 32 bits asks and gives
-use Rattle.std.specs.Prelude.{◌≡◌, ℕ, zero, suc, ◌+◌, ◌-◌, ◌*◌, ◌/◌, ◌%◌, ◌^◌, ◌<◌, ◌≤◌, min, Bool, true, false, cond, not, ◌&&◌, ◌||◌, T, ltb, ◌⊎◌, ℤ, pos, negsuc, neg_ℤ, ◌==◌, nat_le, nat_lt, refl, Float}
-use Rattle.std.proofs.Common.{sym, ap, ap₂, ◌∙◌, subst, inl, inr, mul-one, one-mul, mul-pos, zero-mul, div-lt_iff_lt-mul, le_trans, le_of_lt, lt_of_lt_of_le, le_of_eq, not-le_of_lt, mul_right_comm, mul-le-mul_right, mul-le-mul_left, div-add-mod', add-zero, arith, ltb-true, ltb-false, lt-ltb, eqb-true, eq-eqb, ne_eqb, lit<, lit≤, lt→ltb, le→leb, pow_pos}
+use Rattle.std.specs.Prelude.{◌≡◌, ℕ, zero, suc, ◌+◌, ◌-◌, ◌*◌, ◌/◌, ◌%◌, ◌^◌, ◌<◌, ◌≤◌, min, Bool, true, false, cond, not, ◌&&◌, ◌||◌, T}
+use Rattle.std.specs.Prelude.{ltb, ◌⊎◌, ℤ, pos, negsuc, neg_ℤ, ◌==◌, nat_le, nat_lt, refl, Float}
+use Rattle.std.proofs.Common.{sym, ap, ap₂, ◌∙◌, subst, inl, inr, mul-one, one-mul, mul-pos, zero-mul, div-lt_iff_lt-mul, le_trans}
+use Rattle.std.proofs.Common.{le_of_lt, lt_of_lt_of_le, le_of_eq, not-le_of_lt, mul_right_comm, mul-le-mul_right, mul-le-mul_left}
+use Rattle.std.proofs.Common.{div-add-mod', add-zero, arith, ltb-true, ltb-false, lt-ltb, eqb-true, eq-eqb, ne_eqb, lit<, lit≤, lt→ltb}
+use Rattle.std.proofs.Common.{le→leb, pow_pos}
 use Rattle.std.specs.Bool.{beq}
 use Rattle.std.proofs.Math.Bool.{and-true, and-false, or-true}
 use Rattle.std.proofs.Math.Nat.{zero-div, mul-mod_left, eq_of_mul-eq-mul_right, mod-one}

@@ -4,8 +4,10 @@
 --     number-value, value_row, value-number     row 18 passes a reading exactly if its value is a whole number, which is `whole_number`
 --     held-value        the double that is sent back for n has the value n
 --     scaled_value      a double scaled by 0.125 has, as millimetres, the value that it had as eighths
-use Rattle.std.specs.Prelude.{◌≡◌, ℕ, zero, suc, ◌+◌, ◌*◌, ◌/◌, ◌%◌, ◌^◌, ◌<◌, ◌≤◌, Bool, true, false, not, T, [], ◌∷◌, ℤ, pos, negsuc, ◌*ℤ◌, neg_ℤ, ◌==◌, ◌≢◌, unsigned_abs, refl, Float}
-use Rattle.std.proofs.Common.{sym, ap₂, ◌∙◌, subst, mul-one, zero-mul, mul-pos, mul-div_cancel, div-add-mod', add-zero, le_trans, arith, eqb-true, eq-eqb, lit<, lit≤}
+use Rattle.std.specs.Prelude.{◌≡◌, ℕ, zero, suc, ◌+◌, ◌*◌, ◌/◌, ◌%◌, ◌^◌, ◌<◌, ◌≤◌, Bool, true, false, not, T, [], ◌∷◌, ℤ, pos, negsuc}
+use Rattle.std.specs.Prelude.{◌*ℤ◌, neg_ℤ, ◌==◌, ◌≢◌, unsigned_abs, refl, Float}
+use Rattle.std.proofs.Common.{sym, ap₂, ◌∙◌, subst, mul-one, zero-mul, mul-pos, mul-div_cancel, div-add-mod', add-zero, le_trans, arith}
+use Rattle.std.proofs.Common.{eqb-true, eq-eqb, lit<, lit≤}
 use Rattle.std.proofs.Math.Path.{ap}
 use Rattle.std.proofs.Math.Nat.{mul-mod_left}
 use Rattle.std.proofs.lemmas.Bool.{not-false}

@@ -37,7 +37,8 @@ unfolding holding
 returns-in-Whole-read_part c =
     let args = c.args in
     both c.in-Whole.m c.in-Whole-read_part.n _ _ c.double.result c.double-in-Whole-read_part.result
-    (result-is w32 c.in-Whole.known_told-in-Whole-1-own.given.0.1 refl) (result-is w32 c.in-Whole-read_part.known_told-in-Whole-read_part-2-1-own.given.0.1 refl)
+    (result-is w32 c.in-Whole.known_told-in-Whole-1-own.given.0.1 refl)
+    (result-is w32 c.in-Whole-read_part.known_told-in-Whole-read_part-2-1-own.given.0.1 refl)
     c.double.ensures c.double-in-Whole-read_part.ensures
     ∙ sent-corner args.x args.y _ _ (subst (Coordinated 1 args.x) c.in-Whole.is c.read_part.ensures)
     (subst (Coordinated 2 args.y) c.in-Whole-read_part.is c.read_part-in-Whole.ensures)

@@ -15,7 +15,8 @@ use Rattle.std.proofs.Math.IntN.{pos}
 use Rattle.std.specs.Int.Signed.{lt_z, <ℤ_irrefl}
 use Rattle.integer.specs.Ring.{ring, reify}
 use Rattle.integer.specs.Linear.{linear, lia, ◌&◌}
-use Rattle.integer.specs.Order.{◌<×<◌, ◌<×≤◌, ◌≡×◌, contra<, contra≤, weaken, lt_z-true, lt_z-false, le_z-true, le_z-false, lt-le_z, le-le_z}
+use Rattle.integer.specs.Order.{◌<×<◌, ◌<×≤◌, ◌≡×◌, contra<, contra≤, weaken, lt_z-true, lt_z-false, le_z-true, le_z-false, lt-le_z}
+use Rattle.integer.specs.Order.{le-le_z}
 use Rattle.plane.specs.Point.{Point, opposite, ◌⊖◌}
 use Rattle.plane.specs.Turn.{turn, cross}
 use Rattle.plane.specs.Direction.{value}

@@ -44,5 +44,7 @@ side_left z = ap (le_z (pos 0)) (one-*ℤ z)
 
 pub side_right : (z : ℤ) → le_z (pos 0) (sign_of false *ℤ z) ≡ le_z z (pos 0)
 side_right z = tests_agree _ _
-    (λ h. le-le_z {x = z} {y = pos 0} (lia (z ∷ []) (le_z-true {x = pos 0} {y = sign_of false *ℤ z} h) (search linear depth 40) (omega arith)))
-    (λ h. le-le_z {x = pos 0} {y = sign_of false *ℤ z} (lia (z ∷ []) (le_z-true {x = z} {y = pos 0} h) (search linear depth 40) (omega arith)))
+    (λ h. le-le_z {x = z} {y = pos 0}
+    (lia (z ∷ []) (le_z-true {x = pos 0} {y = sign_of false *ℤ z} h) (search linear depth 40) (omega arith)))
+    (λ h. le-le_z {x = pos 0} {y = sign_of false *ℤ z}
+    (lia (z ∷ []) (le_z-true {x = z} {y = pos 0} h) (search linear depth 40) (omega arith)))

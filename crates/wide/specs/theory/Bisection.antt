@@ -34,7 +34,8 @@ module _ {t q : ℕ} where
   between_start h =
       record { ordered = omega arith; reached = omega arith; next-above = omega (arith, le-mul_of_pos_right ((t + 1) * (t + 1)) h) }
 
-  pub between-down : {low high : ℕ} (m : ℕ) → Between t q low high → low < m → nat_lt (t * t * 1) (m * m * q) ≡ true → Between t q low (m - 1)
+  pub between-down : {low high : ℕ} (m : ℕ) → Between t q low high → low < m → nat_lt (t * t * 1) (m * m * q) ≡ true → Between t q low
+      (m - 1)
   between-down m b l e =
       let back : m - 1 + 1 ≡ m = omega arith in
       record { ordered = omega arith; reached = b.reached; next-above = rw back (omega (arith, ltb-true (t * t * 1) (m * m * q) e)) }

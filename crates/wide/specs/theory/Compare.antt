@@ -2,7 +2,8 @@
 --     above-none, none_below     the ends of the loop
 --     word-agrees      if it does not differ, they agree from word k - 1 on
 --     word-decides     if it differs, the numbers compare as these words
-use Rattle.std.specs.Prelude.{◌≡◌, ℕ, zero, suc, ◌+◌, ◌-◌, ◌*◌, ◌<◌, ◌≤◌, Bool, true, false, List, length, drop, ◌≢◌, nat_lt, slice_index, slice_index_or, refl}
+use Rattle.std.specs.Prelude.{◌≡◌, ℕ, zero, suc, ◌+◌, ◌-◌, ◌*◌, ◌<◌, ◌≤◌, Bool, true, false, List, length, drop, ◌≢◌, nat_lt, slice_index}
+use Rattle.std.specs.Prelude.{slice_index_or, refl}
 use Rattle.std.proofs.Common.{sym, ◌∙◌, ap, mul-le-mul_left, arith, lt-ltb, le-ltb, ltb-true, ltb-false}
 use Rattle.wide.specs.Value.{value}
 use Rattle.wide.specs.theory.Laws.{weight, Words, value-split, value-drop, value-drop-all, low-lt-weight}

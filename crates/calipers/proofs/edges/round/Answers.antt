@@ -11,7 +11,8 @@ pub count-requires : goal.count-requires
 count-requires c = tt
 
 pub returns-then-i-count : goal.returns-then-i-count
-returns-then-i-count c = record { value = ap (λ (b : Bool). cond b 0 c.args.i) (sym (eq-eqb _ _ (c.if-i-count.true ∙ c.count.ensures))); upper_bound = c.requires.1 }
+returns-then-i-count c = record
+    { value = ap (λ (b : Bool). cond b 0 c.args.i) (sym (eq-eqb _ _ (c.if-i-count.true ∙ c.count.ensures))); upper_bound = c.requires.1 }
 
 pub returns-else-i-count : goal.returns-else-i-count
 returns-else-i-count c = let other : c.args.i ≡ length (points c.args.list.now) → ⊥ = λ e. c.if-i-count.false (e ∙ sym c.count.ensures) in

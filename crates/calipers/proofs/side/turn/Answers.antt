@@ -26,7 +26,8 @@ pub beyond-requires : goal.beyond-requires
 beyond-requires c = let pre = c.requires in (pre.0, pre.1)
 
 pub overflow_mul-result-2 : goal.overflow_mul-result-2
-overflow_mul-result-2 c = let dx = across (goal.at.overflow_mul-result-2 c).After-beyond in machine-fits (search (machine, bounded) depth 40) tt
+overflow_mul-result-2 c = let dx = across (goal.at.overflow_mul-result-2 c).After-beyond in machine-fits
+    (search (machine, bounded) depth 40) tt
 
 pub overflow_sub-result : goal.overflow_sub-result
 overflow_sub-result c =

@@ -73,7 +73,8 @@ counted c =
 delivered : (c : After-ask-reply) →
     (2 * count c ≤ length (part (goal.at.After-ask-reply c).After-room-n)) × (8 * count c ≤ length c.args.out.now)
 delivered c =
-    let d = made-delivered (shapes (goal.at.After-ask-reply c).After-room-n) (shape (goal.at.After-ask-reply c).After-room-n) (part (goal.at.After-ask-reply c).After-room-n) c.args.out.now (room (goal.at.After-ask-reply c).After-room-n) in
+    let d = made-delivered (shapes (goal.at.After-ask-reply c).After-room-n) (shape (goal.at.After-ask-reply c).After-room-n)
+    (part (goal.at.After-ask-reply c).After-room-n) c.args.out.now (room (goal.at.After-ask-reply c).After-room-n) in
     (omega (arith, counted c, d.0), omega (arith, counted c, d.1))
 
 pub slice_bounds-ask-end-2 : goal.slice_bounds-ask-end-2
@@ -93,14 +94,17 @@ encode-requires c =
 
 pub packed_reply-requires : goal.packed_reply-requires
 packed_reply-requires c =
-    narrow _ c.ask-reply.ensures.0 (made-fits (first (goal.at.packed_reply-requires c).After-room-n) (second (goal.at.packed_reply-requires c).After-room-n) (shape (goal.at.packed_reply-requires c).After-room-n) (part (goal.at.packed_reply-requires c).After-room-n))
+    narrow _ c.ask-reply.ensures.0
+    (made-fits (first (goal.at.packed_reply-requires c).After-room-n) (second (goal.at.packed_reply-requires c).After-room-n)
+    (shape (goal.at.packed_reply-requires c).After-room-n) (part (goal.at.packed_reply-requires c).After-room-n))
 
 pub returns : goal.returns
 returns c =
     let args = c.args in
     let new = c.ask-reply.new.shape in
     let rest = drop c.room-n.result args.shape.now in
-    made-stored (shapes (goal.at.returns c).After-room-n) (shape (goal.at.returns c).After-room-n) (part (goal.at.returns c).After-room-n) args.out.now (room (goal.at.returns c).After-room-n) (fit (goal.at.returns c).After-room-n) rest
+    made-stored (shapes (goal.at.returns c).After-room-n) (shape (goal.at.returns c).After-room-n) (part (goal.at.returns c).After-room-n)
+    args.out.now (room (goal.at.returns c).After-room-n) (fit (goal.at.returns c).After-room-n) rest
     c.ask-reply.auto.shape c.ask-reply.ensures.1
     (c.packed_reply.ensures (reply (question (goal.at.returns c).After-room-n)) c.ask-reply.ensures.0)
     (c.encode.ensures

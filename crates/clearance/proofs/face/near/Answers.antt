@@ -18,7 +18,8 @@ use Rattle.clearance.specs.Facing.{Lowest}
 use Rattle.clearance.specs.Faces.{IsFace}
 use Rattle.clearance.specs.theory.Lowest.{between-lowest, level-lowest, edge-face, corner-face}
 use Rattle.clearance.proofs.face.near.Goals as goal
-use Rattle.clearance.proofs.face.near.Goals.{After-next-on, After-previous-back, After-value_at-one, After-value_at-other, After-value_at-own, Else-other-own}
+use Rattle.clearance.proofs.face.near.Goals.{After-next-on, After-previous-back, After-value_at-one, After-value_at-other}
+use Rattle.clearance.proofs.face.near.Goals.{After-value_at-own, Else-other-own}
 
 pub count-count-requires : goal.count-count-requires
 count-count-requires c = tt
@@ -95,7 +96,8 @@ other c = result-is w64 c.value_at-other.type_inv c.value_at-other.ensures
 own-lowest : (c : Else-other-own) → let args = c.args in
     Lowest (at args.n) (points args.list.now) args.i
 own-lowest c =
-    between-lowest c.requires.0.shape _ _ _ (back_in c.before.before.before.before.before.before) (from_back c.before.before.before.before.before.before) (to-on c.before.before.before.before.before)
+    between-lowest c.requires.0.shape _ _ _ (back_in c.before.before.before.before.before.before)
+    (from_back c.before.before.before.before.before.before) (to-on c.before.before.before.before.before)
     (not-less (one c.before.before.before) (own c.before.before.before.before) c.if-one-own.false)
     (not-less (other c.before.before) (own c.before.before.before.before) c.if-other-own.false)
 
@@ -105,8 +107,10 @@ ordered-requires c = tt
 pub returns-then-other-own-2 : goal.returns-then-other-own-2
 returns-then-other-own-2 c =
     let pre = c.requires in
-    subst (IsFace _ _) (sym c.ordered.ensures) (edge-face pre.0.shape pre.2 _ _ (to-on c.before.before.before.before.before.before.before) (own-lowest c.before.before)
-    (level-lowest (own-lowest c.before.before) _ (on_in c.before.before.before.before.before.before.before) (no_more (other c.before.before.before.before) (own c.before.before.before.before.before.before) c.if-other-own-2.true)))
+    subst (IsFace _ _) (sym c.ordered.ensures)
+    (edge-face pre.0.shape pre.2 _ _ (to-on c.before.before.before.before.before.before.before) (own-lowest c.before.before)
+    (level-lowest (own-lowest c.before.before) _ (on_in c.before.before.before.before.before.before.before)
+    (no_more (other c.before.before.before.before) (own c.before.before.before.before.before.before) c.if-other-own-2.true)))
 
 pub ordered-requires-then-one-own-2 : goal.ordered-requires-then-one-own-2
 ordered-requires-then-one-own-2 c = tt
@@ -114,9 +118,11 @@ ordered-requires-then-one-own-2 c = tt
 pub returns-then-one-own-2 : goal.returns-then-one-own-2
 returns-then-one-own-2 c =
     let pre = c.requires in
-    subst (IsFace _ _) (sym c.ordered-then-one-own-2.ensures) (edge-face pre.0.shape pre.2 _ _ (from_back c.before.before.before.before.before.before.before.before.before)
+    subst (IsFace _ _) (sym c.ordered-then-one-own-2.ensures)
+    (edge-face pre.0.shape pre.2 _ _ (from_back c.before.before.before.before.before.before.before.before.before)
     (level-lowest (own-lowest c.before.before.before) _ (back_in c.before.before.before.before.before.before.before.before.before)
-    (no_more (one c.before.before.before.before.before.before) (own c.before.before.before.before.before.before.before) c.if-one-own-2.true))
+    (no_more (one c.before.before.before.before.before.before) (own c.before.before.before.before.before.before.before)
+    c.if-one-own-2.true))
     (own-lowest c.before.before.before))
 
 pub ordered-requires-2 : goal.ordered-requires-2
@@ -125,7 +131,9 @@ ordered-requires-2 c = tt
 pub returns : goal.returns
 returns c =
     let pre = c.requires in
-    subst (IsFace _ _) (sym c.ordered-2.ensures) (corner-face pre.0.shape pre.2 _ _ _ (back_in c.before.before.before.before.before.before.before.before.before)
-    (from_back c.before.before.before.before.before.before.before.before.before) (to-on c.before.before.before.before.before.before.before.before) (own-lowest c.before.before.before)
+    subst (IsFace _ _) (sym c.ordered-2.ensures)
+    (corner-face pre.0.shape pre.2 _ _ _ (back_in c.before.before.before.before.before.before.before.before.before)
+    (from_back c.before.before.before.before.before.before.before.before.before)
+    (to-on c.before.before.before.before.before.before.before.before) (own-lowest c.before.before.before)
     (more (one c.before.before.before.before.before.before) (own c.before.before.before.before.before.before.before) c.if-one-own-2.false)
     (more (other c.before.before.before.before.before) (own c.before.before.before.before.before.before.before) c.if-other-own-2.false))

@@ -27,7 +27,8 @@ use Rattle.clearance.specs.Stop.{rests, crosses, Stopped}
 use Rattle.clearance.specs.Sight.{Nowhere}
 use Rattle.clearance.proofs.Looking.{Looking, looking-start, looking-at, looking-corner, looking-edge, looking-more, looking-end}
 use Rattle.clearance.proofs.facing.look.Goals as goal
-use Rattle.clearance.proofs.facing.look.Goals.{After-here-first, After-here-there, After-next-n, After-struct_known-2-1, After-struct_known-in-loop-first-2-1, At-loop-first, Start}
+use Rattle.clearance.proofs.facing.look.Goals.{After-here-first, After-here-there, After-next-n, After-struct_known-2-1}
+use Rattle.clearance.proofs.facing.look.Goals.{After-struct_known-in-loop-first-2-1, At-loop-first, Start}
 
 -- the walk is where it begins
 starts : (c : Start) → At c.args.a.now (image c.args.b.now) begun
@@ -147,7 +148,8 @@ leaves : (c : After-here-there) →
     at c.here-here.result
     ≡ here (points args.a.now) (points (image args.b.now)) (walk_of c.loop-first.s c.loop-first.t false)
 leaves c =
-    c.here-here.ensures ∙ sides-here (looking-at (looking c.before.before.before.before.before)) c.loop-first.invariant.1 c.loop-first.invariant.2
+    c.here-here.ensures ∙ sides-here (looking-at (looking c.before.before.before.before.before)) c.loop-first.invariant.1
+    c.loop-first.invariant.2
 
 arrives : (c : After-here-there) (end : Bool) →
     let args = c.args in
@@ -157,8 +159,11 @@ arrives c end =
     c.here-there.ensures ∙ sides-here (steps c.before.before end) c.next-m.ensures.1 c.next-n.ensures.1
 
 near : (c : After-here-there) → Small 2097152 (at c.here-here.result) × Small 2097152 (at c.here-there.result)
-near c =
-    (here-near (looking-at (looking c.before.before.before.before.before)) (leaves c), here-near (steps c.before.before false) (arrives c false))
+near c = (
+  here-near (looking-at (looking c.before.before.before.before.before)) (leaves c),
+  here-near (steps c.before.before false)
+      (arrives c false),
+)
 
 pub rests-requires : goal.rests-requires
 rests-requires c = let both = near c in
@@ -173,7 +178,8 @@ returns-then-rests c =
       subst (Small 4194304) (sym is.1) (small-wide (near c.before.before.before).0),
       record {
         found-is = λ h. subst (Stopped _) (sym is.1)
-            (looking-corner (looking c.before.before.before.before.before.before.before.before) refl (advances c.before.before.before.before.before) (leaves c.before.before.before) (arrives c.before.before.before _)
+            (looking-corner (looking c.before.before.before.before.before.before.before.before) refl
+            (advances c.before.before.before.before.before) (leaves c.before.before.before) (arrives c.before.before.before _)
             c.requires.4 (sym c.rests.ensures ∙ c.if-rests.true));
         none_is = λ h. absurd (true≢false (sym is.0 ∙ h));
       },
@@ -198,7 +204,9 @@ returns-then-crosses c =
       }),
       record {
         found-is = λ h. subst (Stopped _) (sym is)
-            (looking-edge (looking c.before.before.before.before.before.before.before.before.before.before.before) refl (advances c.before.before.before.before.before.before.before.before) (leaves c.before.before.before.before.before.before) (arrives c.before.before.before.before.before.before _)
+            (looking-edge (looking c.before.before.before.before.before.before.before.before.before.before.before) refl
+            (advances c.before.before.before.before.before.before.before.before) (leaves c.before.before.before.before.before.before)
+            (arrives c.before.before.before.before.before.before _)
             (sym c.crosses.ensures ∙ c.if-crosses.true));
         none_is = λ h. absurd (true≢false (sym c.seen-then-crosses.ensures.0 ∙ h));
       },
@@ -226,16 +234,23 @@ seen-requires-then-m-n c = tt
 pub returns-then-m-n : goal.returns-then-m-n
 returns-then-m-n c =
     let is = c.seen-then-m-n.ensures in
+    let at-first = c.before.before.before.before.before.before.before.before.before.before.before.before.before.before in
     let over = all-passed _ _ _ _ c.next-m.ensures.1.at_in c.next-n.ensures.1.at_in
     (c.if-m-n.true ∙ image-sides c.side_at-s.ensures.1
     c.side_at-t.ensures.1) in (
-      subst (Small 4194304) (sym is.1) (small-wide (here-near (placed c.before.before.before.before.before.before.before.before.before.before.before.before.before.before.before.before.before.before.before) (first-here c.before.before.before.before.before.before.before.before.before.before.before.before.before.before))),
+      subst (Small 4194304) (sym is.1)
+          (small-wide (here-near
+          (placed at-first.before.before.before.before.before) (first-here at-first))),
       record {
         found-is = λ h. absurd (false≢true (sym is.0 ∙ h));
         none_is = λ h k below moved. subst (Nowhere _ k) (sym is.1)
-            (looking-end (c.loop-first.invariant.0 k below moved) refl (advances c.before.before.before.before.before.before.before.before.before.before) (leaves c.before.before.before.before.before.before.before.before) (arrives c.before.before.before.before.before.before.before.before _) (fails c.before.before).0
+            (looking-end (c.loop-first.invariant.0 k below moved) refl
+            (advances c.before.before.before.before.before.before.before.before.before.before)
+            (leaves c.before.before.before.before.before.before.before.before)
+            (arrives c.before.before.before.before.before.before.before.before _) (fails c.before.before).0
             (fails c.before.before).1 over
-            (first-here c.before.before.before.before.before.before.before.before.before.before.before.before.before.before ∙ ap (here _ _) moved ∙ corner-here _ _ (starts c.before.before.before.before.before.before.before.before.before.before.before.before.before.before.before.before.before.before.before) k below));
+            (first-here at-first ∙ ap (here _ _) moved ∙ corner-here _ _
+            (starts at-first.before.before.before.before.before) k below));
       },
     )
 
@@ -245,7 +260,8 @@ loop-first-smaller c =
     let args = c.args in
     let E = edges (points args.a.now) in
     let F = edges (points (image args.b.now)) in
-    edges-less E F _ _ (first_step c.before.before.before.before.before.before.before.before.before) (second-step c.before.before.before.before.before.before.before.before.before) (λ h k. c.if-m-n.false (omega (
+    edges-less E F _ _ (first_step c.before.before.before.before.before.before.before.before.before)
+    (second-step c.before.before.before.before.before.before.before.before.before) (λ h k. c.if-m-n.false (omega (
       arith,
       image-sides c.side_at-s.ensures.1
           c.side_at-t.ensures.1,
@@ -263,7 +279,9 @@ loop-first-preserved c =
     c.side_at-t.ensures.1))) in (
       λ k below moved. subst (λ (o : Bool). Looking args.a.now (image args.b.now) k
           (walk_of c.next-m.result c.next-n.result o) (at c.here-here.result)) on
-          (looking-more (c.loop-first.invariant.0 k below moved) refl (advances c.before.before.before.before.before.before.before.before.before) (leaves c.before.before.before.before.before.before.before) (arrives c.before.before.before.before.before.before.before _)
+          (looking-more (c.loop-first.invariant.0 k below moved) refl
+          (advances c.before.before.before.before.before.before.before.before.before)
+          (leaves c.before.before.before.before.before.before.before) (arrives c.before.before.before.before.before.before.before _)
           (fails c.before).0 (fails c.before).1),
       c.next-m.ensures.1,
       c.next-n.ensures.1,

@@ -77,7 +77,8 @@ squared-is : (c : After-squared) →
     to_z w64 (of_z w64 c.squared.result) ≡ edge_squared (points c.args.b.now) c.args.e
 unfolding edge_squared
 squared-is c =
-    result-is w64 c.squared.type_inv (c.squared.ensures ∙ ap₂ squared c.corner_at-from.ensures (end_is c.before.before.before.before.before.before))
+    result-is w64 c.squared.type_inv
+    (c.squared.ensures ∙ ap₂ squared c.corner_at-from.ensures (end_is c.before.before.before.before.before.before))
 
 pub magnitude-squared-requires : goal.magnitude-squared-requires
 unfolding edge_squared

@@ -35,7 +35,8 @@ beside-is c =
 
 pub returns-then-beside-ge0 : goal.returns-then-beside-ge0
 unfolding is_along
-returns-then-beside-ge0 c = and-taken _ (ap (le_z (pos 0)) (beside-is c.before)) c.if-beside-ge0.true (ap (λ (z : ℤ). le_z z (pos 0)) (beside-is c.before))
+returns-then-beside-ge0 c = and-taken _ (ap (le_z (pos 0)) (beside-is c.before)) c.if-beside-ge0.true
+    (ap (λ (z : ℤ). le_z z (pos 0)) (beside-is c.before))
 
 pub returns-else-beside-ge0 : goal.returns-else-beside-ge0
 unfolding is_along

@@ -79,12 +79,16 @@ second-found c e =
     let g = c.near-g.result in
     let test = is_foot g (points args.a.now) (points args.b.now) in
     subst (Tried test c.near-f.result g) (sym c.first_foot.ensures ∙ e)
-    (tried-is test _ _ (first-face (goal.at.After-first_foot c).After-near-g).ordered (second-face (goal.at.After-first_foot c).After-near-g).ordered)
+    (tried-is test _ _ (first-face (goal.at.After-first_foot c).After-near-g).ordered
+    (second-face (goal.at.After-first_foot c).After-near-g).ordered)
 
 pub returns-in-At-first_foot : goal.returns-in-At-first_foot
 returns-in-At-first_foot c =
-    sym (second-first _ _ _ c.requires.0.shape c.requires.1.shape c.requires.3 (first-face (goal.at.returns-in-At-first_foot c).After-near-g)
-    (second-face (goal.at.returns-in-At-first_foot c).After-near-g) (along-found (goal.at.returns-in-At-first_foot c).After-first_along c.in_default.is) (second-found (goal.at.returns-in-At-first_foot c).After-first_foot c.in-At-first_foot.is))
+    sym (second-first _ _ _ c.requires.0.shape c.requires.1.shape c.requires.3
+    (first-face (goal.at.returns-in-At-first_foot c).After-near-g)
+    (second-face (goal.at.returns-in-At-first_foot c).After-near-g)
+    (along-found (goal.at.returns-in-At-first_foot c).After-first_along c.in_default.is)
+    (second-found (goal.at.returns-in-At-first_foot c).After-first_foot c.in-At-first_foot.is))
 
 pub first_foot-requires-2 : goal.first_foot-requires-2
 first_foot-requires-2 c = let both = ends (goal.at.first_foot-requires-2 c).After-near-g in (both.1, both.0)
@@ -99,12 +103,15 @@ first_found c e =
     let f = c.near-f.result in
     let test = is_foot f (points args.b.now) (points args.a.now) in
     subst (Tried test c.near-g.result f) (sym c.first_foot-2.ensures ∙ e)
-    (tried-is test _ _ (second-face (goal.at.After-first_foot-2 c).After-near-g).ordered (first-face (goal.at.After-first_foot-2 c).After-near-g).ordered)
+    (tried-is test _ _ (second-face (goal.at.After-first_foot-2 c).After-near-g).ordered
+    (first-face (goal.at.After-first_foot-2 c).After-near-g).ordered)
 
 pub returns-in-At-first_foot-2 : goal.returns-in-At-first_foot-2
 returns-in-At-first_foot-2 c =
-    sym (first-first _ _ _ c.requires.0.shape c.requires.1.shape c.requires.3 (first-face (goal.at.returns-in-At-first_foot-2 c).After-near-g)
-    (second-face (goal.at.returns-in-At-first_foot-2 c).After-near-g) (along-found (goal.at.returns-in-At-first_foot-2 c).After-first_along c.in_default.is)
+    sym (first-first _ _ _ c.requires.0.shape c.requires.1.shape c.requires.3
+    (first-face (goal.at.returns-in-At-first_foot-2 c).After-near-g)
+    (second-face (goal.at.returns-in-At-first_foot-2 c).After-near-g)
+    (along-found (goal.at.returns-in-At-first_foot-2 c).After-first_along c.in_default.is)
     (second-found (goal.at.returns-in-At-first_foot-2 c).After-first_foot c.in_default-first_foot.is)
     (first_found (goal.at.returns-in-At-first_foot-2 c).After-first_foot-2 c.in-At-first_foot-2.is))
 

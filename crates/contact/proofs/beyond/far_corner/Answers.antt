@@ -15,7 +15,8 @@ use Rattle.contact.proofs.beyond.far_corner.Goals as goal
 -- a part of small numbers, read back from their bits
 read : (d h l : ℤ) → Within (2 ^ 21) d → Within (2 ^ 22) h → Within (2 ^ 22) l
     → box_part (to_z w32 (of_z w32 d)) (to_z w32 (of_z w32 h)) (to_z w32 (of_z w32 l)) ≡ box_part d h l
-read d h l i j k = rw (to_z-of_z {w = w32} (within-fits tt i), to_z-of_z {w = w32} (within-fits tt j), to_z-of_z {w = w32} (within-fits tt k)) refl
+read d h l i j k = rw
+    (to_z-of_z {w = w32} (within-fits tt i), to_z-of_z {w = w32} (within-fits tt j), to_z-of_z {w = w32} (within-fits tt k)) refl
 
 pub returns : goal.returns
 returns c =

@@ -19,14 +19,19 @@ pub opposite-requires : goal.opposite-requires
 opposite-requires c = (cart-small c.before).1
 
 pub step-requires : goal.step-requires
-step-requires c = (opposite-small c.opposite.ensures (cart-small c.before.before.before).1, (obstacle-small c.before.before.before.before).0)
+step-requires c = (
+  opposite-small c.opposite.ensures (cart-small c.before.before.before).1,
+  (obstacle-small c.before.before.before.before).0,
+)
 
 pub opposite-requires-2 : goal.opposite-requires-2
 opposite-requires-2 c = (cart-small c.before.before.before.before.before).0
 
 pub step-requires-2 : goal.step-requires-2
-step-requires-2 c =
-    (opposite-small c.opposite-2.ensures (cart-small c.before.before.before.before.before.before.before).0, (obstacle-small c.before.before.before.before.before.before.before.before).1)
+step-requires-2 c = (
+  opposite-small c.opposite-2.ensures (cart-small c.before.before.before.before.before.before.before).0,
+  (obstacle-small c.before.before.before.before.before.before.before.before).1,
+)
 
 pub returns : goal.returns
 returns c = let pre = c.requires in
@@ -38,8 +43,10 @@ returns c = let pre = c.requires in
           (step-opposite (at f.low) (at e.high) low c.step.ensures)
           (step-opposite (at f.high) (at e.low) high c.step-2.ensures);
       small = (
-        small-step (opposite-small low (cart-small c.before.before.before.before.before.before.before.before).1) (obstacle-small c.before.before.before.before.before.before.before.before.before).0 c.step.ensures,
-        small-step (opposite-small high (cart-small c.before.before.before.before.before.before.before.before).0) (obstacle-small c.before.before.before.before.before.before.before.before.before).1 c.step-2.ensures,
+        small-step (opposite-small low (cart-small c.before.before.before.before.before.before.before.before).1)
+            (obstacle-small c.before.before.before.before.before.before.before.before.before).0 c.step.ensures,
+        small-step (opposite-small high (cart-small c.before.before.before.before.before.before.before.before).0)
+            (obstacle-small c.before.before.before.before.before.before.before.before.before).1 c.step-2.ensures,
       );
     }
 

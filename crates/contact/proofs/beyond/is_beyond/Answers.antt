@@ -51,14 +51,19 @@ read_back : {z : ℤ} → Within (2 ^ 21) z → Within (2 ^ 21) (to_z w32 (of_z 
 read_back h = subst (λ (x : ℤ). Within (2 ^ 21) x) (sym (machine-is (search (machine, bounded) depth 40) tt ∙ +ℤ_idl _)) (within-neg h)
 
 pub overflow_sub-along : goal.overflow_sub-along
-overflow_sub-along c = let h = (along (goal.at.overflow_sub-along c).After-step-along).small-y in machine-fits (search (machine, bounded) depth 40) tt
+overflow_sub-along c = let h = (along (goal.at.overflow_sub-along c).After-step-along).small-y in machine-fits
+    (search (machine, bounded) depth 40) tt
 
 pub is_beside-requires-3 : goal.is_beside-requires-3
 is_beside-requires-3 c =
     let small = c.grown_extent-span.ensures.small in (
       small.0,
       small.1,
-      record { small-x = read_back (along (goal.at.is_beside-requires-3 c).After-step-along).small-y; small-y = read (along (goal.at.is_beside-requires-3 c).After-step-along).small-x },
+      record {
+        small-x = read_back (along (goal.at.is_beside-requires-3 c).After-step-along).small-y;
+        small-y = read
+            (along (goal.at.is_beside-requires-3 c).After-step-along).small-x;
+      },
       c.requires.2,
     )
 

@@ -83,9 +83,11 @@ loop-i-preserved c =
       inv.1,
       record {
         there-is = c.later-there.ensures ∙ ap₂ later inv.2.there-is (c.entering.ensures
-            ∙ ap₂ entering (from_is c.before.before.before.before.before.before.before) (to_is c.before.before.before.before.before.before)) ∙ wall-more (at args.t) (at args.u) G c.loop-i.i;
+            ∙ ap₂ entering (from_is c.before.before.before.before.before.before.before) (to_is c.before.before.before.before.before.before))
+            ∙ wall-more (at args.t) (at args.u) G c.loop-i.i;
         back_is = c.later-back.ensures ∙ ap₂ later inv.2.back_is (c.entering-in-loop-i.ensures
-            ∙ ap₂ entering (to_is c.before.before.before.before.before.before) (from_is c.before.before.before.before.before.before.before)) ∙ wall-more (at args.u) (at args.t) G c.loop-i.i;
+            ∙ ap₂ entering (to_is c.before.before.before.before.before.before) (from_is c.before.before.before.before.before.before.before))
+            ∙ wall-more (at args.u) (at args.t) G c.loop-i.i;
       },
     )
 

@@ -25,9 +25,11 @@ returns-in-No c =
 pub returns-in-No-admit : goal.returns-in-No-admit
 returns-in-No-admit c =
     c.of_refusal-in-No-admit.ensures
-    ∙ ap crossed (barred-refused (refuses-join (shape_rows 1 c.args.a.now) (valid→accepted _ 1 (first (goal.at.returns-in-No-admit c).In_default))
+    ∙ ap crossed (barred-refused
+    (refuses-join (shape_rows 1 c.args.a.now) (valid→accepted _ 1 (first (goal.at.returns-in-No-admit c).In_default))
     (c.admit-2.ensures.no _ c.in-No-admit.is)))
 
 pub returns : goal.returns
 returns c =
-    c.of_refusal-2.ensures ∙ ap crossed (barred-shapes _ _ (first (goal.at.returns c).In_default) (second (goal.at.returns c).In_default-admit))
+    c.of_refusal-2.ensures ∙ ap crossed
+    (barred-shapes _ _ (first (goal.at.returns c).In_default) (second (goal.at.returns c).In_default-admit))

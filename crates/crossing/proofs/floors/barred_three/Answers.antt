@@ -30,16 +30,20 @@ returns-in-No c =
 pub returns-in-No-admit : goal.returns-in-No-admit
 returns-in-No-admit c =
     c.of_refusal-in-No-admit.ensures
-    ∙ ap crossed (barred-refused (refuses-join (shape_rows 1 c.args.a.now) (valid→accepted _ 1 (first (goal.at.returns-in-No-admit c).In_default))
+    ∙ ap crossed (barred-refused
+    (refuses-join (shape_rows 1 c.args.a.now) (valid→accepted _ 1 (first (goal.at.returns-in-No-admit c).In_default))
     (refuses-append (shape_rows 3 c.args.c.now) (c.admit-2.ensures.no _ c.in-No-admit.is))))
 
 pub returns-in-No-admit-2 : goal.returns-in-No-admit-2
 returns-in-No-admit-2 c =
     c.of_refusal-in-No-admit-2.ensures
-    ∙ ap crossed (barred-refused (refuses-join (shape_rows 1 c.args.a.now) (valid→accepted _ 1 (first (goal.at.returns-in-No-admit-2 c).In_default))
+    ∙ ap crossed (barred-refused
+    (refuses-join (shape_rows 1 c.args.a.now) (valid→accepted _ 1 (first (goal.at.returns-in-No-admit-2 c).In_default))
     (refuses-join (shape_rows 2 c.args.b.now) (valid→accepted _ 2 (second (goal.at.returns-in-No-admit-2 c).In_default-admit))
     (c.admit-3.ensures.no _ c.in-No-admit-2.is))))
 
 pub returns : goal.returns
 returns c =
-    c.of_refusal-2.ensures ∙ ap crossed (barred-three _ _ _ (first (goal.at.returns c).In_default) (second (goal.at.returns c).In_default-admit) (third (goal.at.returns c).In_default-admit-2))
+    c.of_refusal-2.ensures ∙ ap crossed
+    (barred-three _ _ _ (first (goal.at.returns c).In_default) (second (goal.at.returns c).In_default-admit)
+    (third (goal.at.returns c).In_default-admit-2))

@@ -31,7 +31,8 @@ pub returns-then-not-is_on : goal.returns-then-not-is_on
 returns-then-not-is_on c =
     let args = c.args in
     let off = sym c.is_on.ensures ∙ c.if-not-is_on.true in (
-      subst (λ (ps : List Pair). Passed (points args.cart.now) args.log.now ps args.best args.best) (pairs-are (goal.at.returns-then-not-is_on c).Start off)
+      subst (λ (ps : List Pair). Passed (points args.cart.now) args.log.now ps args.best args.best)
+          (pairs-are (goal.at.returns-then-not-is_on c).Start off)
           (passed_none _ _ _ c.requires.6),
       c.requires.3,
       c.requires.4,
@@ -57,7 +58,8 @@ later-requires c =
       pre.5,
       pre.6,
       subst Valid (sym front.front)
-          (grown_of-valid _ _ (here-valid pre.1) pre.2.shape.some (walk-fits _ pre.0 pre.1.here (is-on (goal.at.later-requires c).Else-not-is_on))),
+          (grown_of-valid _ _ (here-valid pre.1) pre.2.shape.some
+          (walk-fits _ pre.0 pre.1.here (is-on (goal.at.later-requires c).Else-not-is_on))),
       front-points front,
     )
 

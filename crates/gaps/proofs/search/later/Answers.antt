@@ -94,7 +94,8 @@ loop-reach-preserved c =
     let same = ap (λ (k : ℕ). q + (2 + k)) (sym (step c).0) in (
       subst (λ (r : ℕ). Walk A b args.floor r) same (walk-next A inv.0 (here (goal.at.loop-reach-preserved c).In-loop-reach)),
       subst (λ (r : ℕ). Along A b ps (next_at b args.p) args.best c.tried-kept.result r) same
-          (along-next A b ps inv.1 c.tried-kept.ensures.0 (later-step args.floor b q (here (goal.at.loop-reach-preserved c).In-loop-reach) args.p)),
+          (along-next A b ps inv.1 c.tried-kept.ensures.0
+          (later-step args.floor b q (here (goal.at.loop-reach-preserved c).In-loop-reach) args.p)),
       c.tried-kept.ensures.1,
       c.tried-kept.ensures.2,
     )

@@ -16,7 +16,8 @@ use Rattle.gaps.proofs.search.later.Given as goal
 
 abbrev pub invariant-loop-reach : goal.invariant-loop-reach
 invariant-loop-reach l =
-    Walk (points l.cart) l.log l.floor l.q × Along (points l.cart) l.log (later_pairs l.floor l.log l.p) (next_at l.log l.p) l.initial.kept l.kept l.q
+    Walk (points l.cart) l.log l.floor l.q × Along (points l.cart) l.log (later_pairs l.floor l.log l.p) (next_at l.log l.p) l.initial.kept
+    l.kept l.q
     × (length l.shape ≡ 2 * max_corners) × (length l.below ≡ 2 * max_corners)
 
 abbrev pub decreases-loop-reach : goal.decreases-loop-reach

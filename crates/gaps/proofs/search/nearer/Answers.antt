@@ -22,7 +22,8 @@ is_less-requires c =
 -- by what the test says, which asks for the contrary
 compared : (p q i j : ℕ) (w v : Spacing) (x : Bool) → x ≡ not (no_more (fraction_of v) (fraction_of w))
     → cond x (Best.Pair p q w) (Best.Pair i j v) ≡ nearer p q w (Best.Pair i j v)
-compared p q i j w v x e = ap (λ (t : Bool). cond t (Best.Pair p q w) (Best.Pair i j v)) e ∙ turned (no_more (fraction_of v) (fraction_of w))
+compared p q i j w v x e = ap (λ (t : Bool). cond t (Best.Pair p q w) (Best.Pair i j v)) e ∙ turned
+    (no_more (fraction_of v) (fraction_of w))
   where
     turned : (t : Bool) → cond (not t) (Best.Pair p q w) (Best.Pair i j v) ≡ cond t (Best.Pair i j v) (Best.Pair p q w)
     turned true = refl

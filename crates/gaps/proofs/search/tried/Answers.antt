@@ -75,7 +75,8 @@ between-requires c =
     let pre = c.requires in (
       pre.7,
       subst Valid (sym c.grow_at-m.ensures.0.front)
-          (grown_of-valid _ _ (here-valid pre.2) pre.3.shape.some (walk-fits _ pre.0 pre.2.here (is-on (goal.at.between-requires c).Else-not-is_on))),
+          (grown_of-valid _ _ (here-valid pre.2) pre.3.shape.some
+          (walk-fits _ pre.0 pre.2.here (is-on (goal.at.between-requires c).Else-not-is_on))),
     )
 
 -- how far apart the two are

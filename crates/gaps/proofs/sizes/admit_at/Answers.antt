@@ -61,8 +61,11 @@ on-as c e =
     sym (on-here c.head_at.ensures _ c.if-head_at-floor.false) ∙ sym c.is_current.ensures ∙ e
 
 pub returns-then-head_at-floor : goal.returns-then-head_at-floor
-returns-then-head_at-floor c =
-    (judged-by (rows_are (goal.at.returns-then-head_at-floor c).Start (sym (on-elsewhere c.head_at.ensures _ c.if-head_at-floor.true))) (passes tt), c.requires.2)
+returns-then-head_at-floor c = (
+  judged-by (rows_are (goal.at.returns-then-head_at-floor c).Start (sym (on-elsewhere c.head_at.ensures _ c.if-head_at-floor.true)))
+      (passes tt),
+  c.requires.2,
+)
 
 pub slice_bounds-admit_grown-end : goal.slice_bounds-admit_grown-end
 slice_bounds-admit_grown-end c = fits (goal.at.slice_bounds-admit_grown-end c).After-read_at-n
@@ -79,13 +82,17 @@ admit_grown-requires c =
 pub returns-in_default : goal.returns-in_default
 returns-in_default c =
     let args = c.args in (
-      passes (none-count (rows (goal.at.returns-in_default c).Start) (is_on args.floor args.log.now args.p) ((judged (goal.at.returns-in_default c).After-admit_grown).valid c.in_default.is)),
+      passes (none-count (rows (goal.at.returns-in_default c).Start) (is_on args.floor args.log.now args.p)
+          ((judged (goal.at.returns-in_default c).After-admit_grown).valid c.in_default.is)),
       c.read_at-n.ensures.1,
     )
 
 pub returns-then-not-is_current : goal.returns-then-not-is_current
-returns-then-not-is_current c =
-    (judged-by (rows_are (goal.at.returns-then-not-is_current c).Start (on-as (goal.at.returns-then-not-is_current c).After-is_current (c.if-not-is_current.true))) (passes tt), c.read_at-n.ensures.1)
+returns-then-not-is_current c = (
+  judged-by (rows_are (goal.at.returns-then-not-is_current c).Start
+      (on-as (goal.at.returns-then-not-is_current c).After-is_current (c.if-not-is_current.true))) (passes tt),
+  c.read_at-n.ensures.1,
+)
 
 pub returns : goal.returns
 returns c = (

@@ -52,7 +52,8 @@ pub loop-shape-preserved : goal.loop-shape-preserved
 loop-shape-preserved c =
     let args = c.args in (
       subst (λ (k : ℕ). Judging (points args.cart.now) args.log.now args.floor (c.loop-shape.p + (2 + k))) (sym (step c).0)
-          (judging-next c.loop-shape.invariant.0 (here (goal.at.loop-shape-preserved c).In-loop-shape) (c.admit_at.ensures.0.valid c.in_default.is)),
+          (judging-next c.loop-shape.invariant.0 (here (goal.at.loop-shape-preserved c).In-loop-shape)
+          (c.admit_at.ensures.0.valid c.in_default.is)),
       c.admit_at.ensures.1,
     )
 

@@ -81,7 +81,8 @@ returns c =
     let down = c.side-left.ensures in
     let part = length-take-le (length xs - 2 * m) (drop (2 * m) xs) (omega (arith, length-drop (2 * m) xs)) in
     let right-in : m ≤ length (points xs) = omega (arith, room c.before.before.before.before) in
-    let left_in : n ≤ length (points ys) = omega (arith, room c.before.before.before.before, down.few, down.same, part, points-length xs, points-length ys) in
+    let left_in : n ≤ length (points ys) = omega
+    (arith, room c.before.before.before.before, down.few, down.same, part, points-length xs, points-length ys) in
     let more : 1 < c.args.n = omega (arith, c.requires.0, c.if-n-eq1.false) in
     subst (λ (ps : List Point). Front ps (m + n) (put_mid (2 * m) (length xs - 2 * m) xs ys))
     (sides-outline (points c.args.list.now) c.args.n c.requires.1 more c.side-right.ensures down right-in left_in)

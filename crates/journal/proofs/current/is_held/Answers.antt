@@ -38,7 +38,8 @@ pair_at-requires c = omega (arith, next-inside _ c.loop-from.p (here c), least c
 
 pub returns-then-pair_at-name : goal.returns-then-pair_at-name
 returns-then-pair_at-name c =
-    ahead-found c.loop-from.invariant (here (goal.at.returns-then-pair_at-name c).In-loop-from) (name-read (goal.at.returns-then-pair_at-name c).After-pair_at ∙ c.if-pair_at-name.true)
+    ahead-found c.loop-from.invariant (here (goal.at.returns-then-pair_at-name c).In-loop-from)
+    (name-read (goal.at.returns-then-pair_at-name c).After-pair_at ∙ c.if-pair_at-name.true)
 
 pub next_at-p-requires : goal.next_at-p-requires
 next_at-p-requires c = here (goal.at.next_at-p-requires c).In-loop-from
@@ -51,7 +52,8 @@ pub loop-from-preserved : goal.loop-from-preserved
 loop-from-preserved c =
     let args = c.args in
     subst (Ahead args.name args.log.now args.from) (sym c.next_at-p.ensures)
-    (ahead-next c.loop-from.invariant (here (goal.at.loop-from-preserved c).In-loop-from) (λ e. c.if-pair_at-name.false (sym (name-read (goal.at.loop-from-preserved c).After-pair_at) ∙ e)))
+    (ahead-next c.loop-from.invariant (here (goal.at.loop-from-preserved c).In-loop-from)
+    (λ e. c.if-pair_at-name.false (sym (name-read (goal.at.loop-from-preserved c).After-pair_at) ∙ e)))
 
 pub returns : goal.returns
 returns c = ahead-end c.loop-from.invariant (sym c.whole_at.ensures ∙ c.loop-from-test.false)

@@ -28,7 +28,8 @@ later : (c : Else-last-p) →
     Later args.log.now (next_at args.log.now args.p) (get_or args.table.now (c.pair_at-name.result % 1024) 0)
 later c =
     let pre = c.requires in
-    marked-held pre.1 pre.0 (name-read (goal.at.Else-last-p c).After-pair_at-name) (marked (goal.at.Else-last-p c).Else-table-name) (omega (arith, c.if-last-p.false))
+    marked-held pre.1 pre.0 (name-read (goal.at.Else-last-p c).After-pair_at-name) (marked (goal.at.Else-last-p c).Else-table-name)
+    (omega (arith, c.if-last-p.false))
 
 pub overflow_add-p : goal.overflow_add-p
 overflow_add-p c = omega (arith, name-inside c.requires.0)
@@ -58,5 +59,6 @@ returns-then-pair_at-name c =
     let log = args.log.now in
     let it = later (goal.at.returns-then-pair_at-name c).Else-last-p in
     sym (ap (λ (n : ℕ). not (held n (records (drop (next_at log args.p) log))))
-    (name-read (goal.at.returns-then-pair_at-name c).After-pair_at-name ∙ sym c.if-pair_at-name.true ∙ c.pair_at.ensures.0 ∙ sym (name-here it.sound ∙ name-at _ _))
+    (name-read (goal.at.returns-then-pair_at-name c).After-pair_at-name ∙ sym c.if-pair_at-name.true ∙ c.pair_at.ensures.0 ∙ sym
+    (name-here it.sound ∙ name-at _ _))
     ∙ ap not it.has)

@@ -31,8 +31,10 @@ counted c =
     let Next : ℕ → Type 0 = λ (n : ℕ). Nth args.k args.log.now (next_at args.log.now c.loop-k.p) n in
     elim c.if-is_latest.branch [
       | then-is_latest+else-left-eq0 w ↦
-          subst Next (sym w.left-is) (nth-counted inv (here (goal.at.Joined-is_latest c).In-loop-k) (test ∙ w.if-is_latest.true) w.if-left-eq0.false)
-      | else-is_latest w ↦ subst Next (sym w.left-is) (nth-passed inv (here (goal.at.Joined-is_latest c).In-loop-k) (test ∙ w.if-is_latest.false))
+          subst Next (sym w.left-is)
+          (nth-counted inv (here (goal.at.Joined-is_latest c).In-loop-k) (test ∙ w.if-is_latest.true) w.if-left-eq0.false)
+      | else-is_latest w ↦ subst Next (sym w.left-is)
+          (nth-passed inv (here (goal.at.Joined-is_latest c).In-loop-k) (test ∙ w.if-is_latest.false))
     ]
 
 pub loop-k-init : goal.loop-k-init
@@ -69,7 +71,11 @@ pub loop-k-preserved : goal.loop-k-preserved
 loop-k-preserved c =
     let args = c.args in
     subst (λ (q : ℕ). Nth args.k args.log.now q c.if-is_latest.left × Marked args.log.now args.table.now q)
-    (sym c.next_at-p.ensures) (counted (goal.at.loop-k-preserved c).Joined-is_latest, marked_next c.loop-k.invariant.1 (here (goal.at.loop-k-preserved c).In-loop-k))
+    (sym c.next_at-p.ensures) (
+      counted (goal.at.loop-k-preserved c).Joined-is_latest,
+      marked_next c.loop-k.invariant.1
+          (here (goal.at.loop-k-preserved c).In-loop-k),
+    )
 
 pub returns : goal.returns
 returns c = nth_end c.loop-k.invariant.0 (sym c.whole_at.ensures ∙ c.loop-k-test.false)

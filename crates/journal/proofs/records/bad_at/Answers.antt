@@ -11,7 +11,8 @@ use Rattle.journal.specs.Format.{fixed_bytes, size, kind, judged, is_answer, oth
 use Rattle.journal.proofs.theory.Records.{whole→facts}
 use Rattle.journal.proofs.theory.Survey.{size-at, kind_at, next-inside, eighth, bad-short, bad_kind, bad-small, bad-length, bad-shape}
 use Rattle.journal.proofs.records.bad_at.Goals as goal
-use Rattle.journal.proofs.records.bad_at.Goals.{After-fixed_bytes-fixed, After-pair_at-kind, After-pair_at-size, After-shared_slice_known-1, Else-is_other, Else-size-fixed, Else-size-lt-PLAIN_BYTES}
+use Rattle.journal.proofs.records.bad_at.Goals.{After-fixed_bytes-fixed, After-pair_at-kind, After-pair_at-size, After-shared_slice_known-1}
+use Rattle.journal.proofs.records.bad_at.Goals.{Else-is_other, Else-size-fixed, Else-size-lt-PLAIN_BYTES}
 
 -- the record is inside the log
 inside : (c : After-shared_slice_known-1) → let args = c.args in
@@ -44,7 +45,13 @@ fixed-read c = ap fixed_bytes (kind-read (goal.at.After-fixed_bytes-fixed c).Aft
 long : (c : Else-size-fixed) → let args = c.args in
     let t = drop args.p args.log.now in fixed_bytes (kind t) ≤ size t
 long c =
-    omega (arith, c.if-size-fixed.false, fixed-read (goal.at.Else-size-fixed c).After-fixed_bytes-fixed, size-read (goal.at.Else-size-fixed c).After-pair_at-size)
+    omega (
+      arith,
+      c.if-size-fixed.false,
+      fixed-read (goal.at.Else-size-fixed c).After-fixed_bytes-fixed,
+      size-read
+          (goal.at.Else-size-fixed c).After-pair_at-size,
+    )
 
 -- what is left of its length
 rest : (c : After-fixed_bytes-fixed) →
@@ -56,8 +63,11 @@ pub pair_at-size-requires : goal.pair_at-size-requires
 pair_at-size-requires c = omega (arith, inside c, (whole→facts _ c.requires.0).some)
 
 pub returns-then-size-lt-PLAIN_BYTES : goal.returns-then-size-lt-PLAIN_BYTES
-returns-then-size-lt-PLAIN_BYTES c =
-    (sym (bad-short _ (omega (arith, c.if-size-lt-PLAIN_BYTES.true, size-read (goal.at.returns-then-size-lt-PLAIN_BYTES c).After-pair_at-size))), refl)
+returns-then-size-lt-PLAIN_BYTES c = (
+  sym (bad-short _ (omega
+      (arith, c.if-size-lt-PLAIN_BYTES.true, size-read (goal.at.returns-then-size-lt-PLAIN_BYTES c).After-pair_at-size))),
+  refl,
+)
 
 pub overflow_add-p : goal.overflow_add-p
 overflow_add-p c = omega (arith, inside (goal.at.overflow_add-p c).After-shared_slice_known-1)
@@ -67,25 +77,38 @@ pair_at-kind-requires c = omega (arith, inside (goal.at.pair_at-kind-requires c)
 
 pub returns-then-is_other : goal.returns-then-is_other
 returns-then-is_other c =
-    let other = ap other_kind (kind-read (goal.at.returns-then-is_other c).After-pair_at-kind) ∙ sym c.is_other.ensures ∙ c.if-is_other.true in
+    let other = ap other_kind (kind-read (goal.at.returns-then-is_other c).After-pair_at-kind) ∙ sym c.is_other.ensures ∙ c.if-is_other.true
+    in
     (sym (bad_kind _ (least (goal.at.returns-then-is_other c).Else-size-lt-PLAIN_BYTES) other), refl)
 
 pub returns-then-size-fixed : goal.returns-then-size-fixed
 returns-then-size-fixed c =
-    let same = size-read (goal.at.returns-then-size-fixed c).After-pair_at-size in
-    (sym (bad-small _ (least (goal.at.returns-then-size-fixed c).Else-size-lt-PLAIN_BYTES) (omega (arith, c.if-size-fixed.true, fixed-read (goal.at.returns-then-size-fixed c).After-fixed_bytes-fixed))), refl)
+    let same = size-read (goal.at.returns-then-size-fixed c).After-pair_at-size in (
+      sym (bad-small _ (least (goal.at.returns-then-size-fixed c).Else-size-lt-PLAIN_BYTES)
+          (omega (arith, c.if-size-fixed.true, fixed-read (goal.at.returns-then-size-fixed c).After-fixed_bytes-fixed))),
+      refl,
+    )
 
 pub returns-then-size-fixed-ne0 : goal.returns-then-size-fixed-ne0
 returns-then-size-fixed-ne0 c =
-    let left = ap (λ (n : ℕ). n % 8) (sym (rest (goal.at.returns-then-size-fixed-ne0 c).After-fixed_bytes-fixed)) in
-    (sym (bad-length _ (least (goal.at.returns-then-size-fixed-ne0 c).Else-size-lt-PLAIN_BYTES) (long (goal.at.returns-then-size-fixed-ne0 c).Else-size-fixed) (λ e. c.if-size-fixed-ne0.true (left ∙ e))), refl)
+    let left = ap (λ (n : ℕ). n % 8) (sym (rest (goal.at.returns-then-size-fixed-ne0 c).After-fixed_bytes-fixed)) in (
+      sym (bad-length _ (least (goal.at.returns-then-size-fixed-ne0 c).Else-size-lt-PLAIN_BYTES)
+          (long (goal.at.returns-then-size-fixed-ne0 c).Else-size-fixed) (λ e. c.if-size-fixed-ne0.true (left ∙ e))),
+      refl,
+    )
 
 pub overflow_add-p-2 : goal.overflow_add-p-2
-overflow_add-p-2 c = omega (arith, inside (goal.at.overflow_add-p-2 c).After-shared_slice_known-1, least (goal.at.overflow_add-p-2 c).Else-size-lt-PLAIN_BYTES)
+overflow_add-p-2 c = omega
+    (arith, inside (goal.at.overflow_add-p-2 c).After-shared_slice_known-1, least (goal.at.overflow_add-p-2 c).Else-size-lt-PLAIN_BYTES)
 
 pub overflow_add-p-3 : goal.overflow_add-p-3
 overflow_add-p-3 c =
-    omega (arith, inside (goal.at.overflow_add-p-3 c).After-shared_slice_known-1, long (goal.at.overflow_add-p-3 c).Else-size-fixed, fixed-read (goal.at.overflow_add-p-3 c).After-fixed_bytes-fixed)
+    omega (
+      arith,
+      inside (goal.at.overflow_add-p-3 c).After-shared_slice_known-1,
+      long (goal.at.overflow_add-p-3 c).Else-size-fixed,
+      fixed-read (goal.at.overflow_add-p-3 c).After-fixed_bytes-fixed,
+    )
 
 pub is_shape_at-requires : goal.is_shape_at-requires
 is_shape_at-requires c =
@@ -100,9 +123,11 @@ returns c =
     let args = c.args in
     let t = drop args.p args.log.now in
     let even = ap (λ (n : ℕ). n % 8) (rest (goal.at.returns c).After-fixed_bytes-fixed) ∙ c.if-size-fixed-ne0.false in
-    let place : args.p + (1 + fixed_bytes (kind t)) ≡ args.p + 1 + c.fixed_bytes-fixed.result = omega (arith, fixed-read (goal.at.returns c).After-fixed_bytes-fixed) in (
+    let place : args.p + (1 + fixed_bytes (kind t)) ≡ args.p + 1 + c.fixed_bytes-fixed.result = omega
+    (arith, fixed-read (goal.at.returns c).After-fixed_bytes-fixed) in (
       ap not c.is_shape_at.ensures.0
-          ∙ sym (bad-shape t (least (goal.at.returns c).Else-size-lt-PLAIN_BYTES) (long (goal.at.returns c).Else-size-fixed) even (known (goal.at.returns c).Else-is_other)
+          ∙ sym (bad-shape t (least (goal.at.returns c).Else-size-lt-PLAIN_BYTES) (long (goal.at.returns c).Else-size-fixed) even
+          (known (goal.at.returns c).Else-is_other)
           ∙ ap (λ l. not (is_answer (judged l))) (words_at-drop args.log.now _ args.p _
           ∙ ap₂ (λ (n q : ℕ). words_at (n / 4) args.log.now q) (rest (goal.at.returns c).After-fixed_bytes-fixed) place)),
       c.is_shape_at.ensures.1,

@@ -8,7 +8,8 @@ use Rattle.journal.proofs.records.is_other.Goals as goal
 
 pub returns-then-kind-eq-PLAIN : goal.returns-then-kind-eq-PLAIN
 unfolding other_kind
-returns-then-kind-eq-PLAIN c = let kind = c.args.kind in sym (ap (λ (x : Bool). not (x || eqb kind 2)) (eq-eqb kind 1 c.if-kind-eq-PLAIN.true))
+returns-then-kind-eq-PLAIN c = let kind = c.args.kind in sym
+    (ap (λ (x : Bool). not (x || eqb kind 2)) (eq-eqb kind 1 c.if-kind-eq-PLAIN.true))
 
 pub returns : goal.returns
 unfolding other_kind

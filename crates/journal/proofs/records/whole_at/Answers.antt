@@ -22,12 +22,20 @@ returns-then-room-lt2 c =
     no_record _ (λ w. omega (arith, c.if-room-lt2.true, w.two, length-drop args.p args.log.now))
 
 pub returns-then-size-eq0 : goal.returns-then-size-eq0
-returns-then-size-eq0 c = no_record _ (λ w. omega (arith, c.if-size-eq0.true, w.some, size-read (goal.at.returns-then-size-eq0 c).After-pair_at-size))
+returns-then-size-eq0 c = no_record _
+    (λ w. omega (arith, c.if-size-eq0.true, w.some, size-read (goal.at.returns-then-size-eq0 c).After-pair_at-size))
 
 pub returns-then-room-size : goal.returns-then-room-size
 returns-then-room-size c =
     let args = c.args in
-    no_record _ (λ w. omega (arith, c.if-room-size.true, w.fits, size-read (goal.at.returns-then-room-size c).After-pair_at-size, length-drop args.p args.log.now))
+    no_record _ (λ w. omega (
+      arith,
+      c.if-room-size.true,
+      w.fits,
+      size-read (goal.at.returns-then-room-size c).After-pair_at-size,
+      length-drop args.p
+          args.log.now,
+    ))
 
 pub returns : goal.returns
 returns c =

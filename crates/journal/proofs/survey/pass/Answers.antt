@@ -42,7 +42,8 @@ loop-buffer-smaller c =
 pub loop-buffer-preserved : goal.loop-buffer-preserved
 loop-buffer-preserved c = (
   subst (Along c.args.log.now) (sym c.next_at-p.ensures)
-      (along-good c.loop-buffer.invariant.0 (here (goal.at.loop-buffer-preserved c).In-loop-buffer) (sym c.bad_at.ensures.0 ∙ c.if-bad_at.false)),
+      (along-good c.loop-buffer.invariant.0 (here (goal.at.loop-buffer-preserved c).In-loop-buffer)
+      (sym c.bad_at.ensures.0 ∙ c.if-bad_at.false)),
   c.bad_at.ensures.1 ∙ c.loop-buffer.invariant.1,
 )
 

@@ -33,7 +33,8 @@ returns-in_default-entry c =
 
 pub returns-then-out-head : goal.returns-then-out-head
 returns-then-out-head c =
-    entry-room _ _ _ (sound (goal.at.returns-then-out-head c).In_default) _ (found (goal.at.returns-then-out-head c).In-At) c.if-out-head.true
+    entry-room _ _ _ (sound (goal.at.returns-then-out-head c).In_default) _ (found (goal.at.returns-then-out-head c).In-At)
+    c.if-out-head.true
 
 pub decode-requires : goal.decode-requires
 decode-requires c = ((found (goal.at.decode-requires c).In-At).stated.inside, omega (arith, c.if-out-head.false))

@@ -45,7 +45,8 @@ count-requires c = sound c
 
 pub returns-then-count-lt2 : goal.returns-then-count-lt2
 returns-then-count-lt2 c =
-    gap-few _ (lent (goal.at.returns-then-count-lt2 c).Start) (valid (goal.at.returns-then-count-lt2 c).In_default) (sound (goal.at.returns-then-count-lt2 c).In_default-survey)
+    gap-few _ (lent (goal.at.returns-then-count-lt2 c).Start) (valid (goal.at.returns-then-count-lt2 c).In_default)
+    (sound (goal.at.returns-then-count-lt2 c).In_default-survey)
     (omega (arith, c.count.ensures, c.if-count-lt2.true))
 
 -- past the count there are two shapes
@@ -58,7 +59,8 @@ admit_sizes-requires c = (sound (goal.at.admit_sizes-requires c).In_default-surv
 
 pub returns-in-No-admit_sizes : goal.returns-in-No-admit_sizes
 returns-in-No-admit_sizes c =
-    gap-large _ (lent (goal.at.returns-in-No-admit_sizes c).Start) (valid (goal.at.returns-in-No-admit_sizes c).In_default) (sound (goal.at.returns-in-No-admit_sizes c).In_default-survey) (two (goal.at.returns-in-No-admit_sizes c).Else-count-lt2)
+    gap-large _ (lent (goal.at.returns-in-No-admit_sizes c).Start) (valid (goal.at.returns-in-No-admit_sizes c).In_default)
+    (sound (goal.at.returns-in-No-admit_sizes c).In_default-survey) (two (goal.at.returns-in-No-admit_sizes c).Else-count-lt2)
     (c.admit_sizes.ensures.no _ c.in-No-admit_sizes.is)
 
 -- past the sizes every grown shape is one
@@ -80,5 +82,6 @@ returns-in_default-gap c =
 pub returns : goal.returns
 returns c =
     c.paired.ensures
-    ∙ gap-found _ (lent (goal.at.returns c).Start) (valid (goal.at.returns c).In_default) (sound (goal.at.returns c).In_default-survey) (two (goal.at.returns c).Else-count-lt2) (sized (goal.at.returns c).In_default-admit_sizes)
+    ∙ gap-found _ (lent (goal.at.returns c).Start) (valid (goal.at.returns c).In_default) (sound (goal.at.returns c).In_default-survey)
+    (two (goal.at.returns c).Else-count-lt2) (sized (goal.at.returns c).In_default-admit_sizes)
     (ap numbers_of (sym c.in-Of.is) ∙ c.gap.ensures)

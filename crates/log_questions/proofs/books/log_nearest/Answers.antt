@@ -32,7 +32,8 @@ nearest-requires c = (sound c, valid (goal.at.nearest-requires c).In_default)
 
 pub returns-in_default-nearest : goal.returns-in_default-nearest
 returns-in_default-nearest c =
-    nearest-nobody _ _ _ _ (valid (goal.at.returns-in_default-nearest c).In_default) (sound (goal.at.returns-in_default-nearest c).In_default-survey)
+    nearest-nobody _ _ _ _ (valid (goal.at.returns-in_default-nearest c).In_default)
+    (sound (goal.at.returns-in_default-nearest c).In_default-survey)
     (ap near_numbers (sym c.in_default-nearest.is) ∙ c.nearest.ensures)
 
 pub returns : goal.returns

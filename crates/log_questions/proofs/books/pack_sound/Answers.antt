@@ -24,8 +24,10 @@ pack-requires c = (c.requires, room (goal.at.pack-requires c).Else-new-packed_le
 
 pub returns-then-pack : goal.returns-then-pack
 returns-then-pack c =
-    pack-done _ _ _ _ c.requires (room (goal.at.returns-then-pack c).Else-new-packed_length) c.if-pack.true c.pack.ensures.0 c.pack.ensures.1
+    pack-done _ _ _ _ c.requires (room (goal.at.returns-then-pack c).Else-new-packed_length) c.if-pack.true c.pack.ensures.0
+    c.pack.ensures.1
 
 pub returns-else-pack : goal.returns-else-pack
 returns-else-pack c =
-    pack-done _ _ _ _ c.requires (room (goal.at.returns-else-pack c).Else-new-packed_length) c.if-pack.false c.pack.ensures.0 c.pack.ensures.1
+    pack-done _ _ _ _ c.requires (room (goal.at.returns-else-pack c).Else-new-packed_length) c.if-pack.false c.pack.ensures.0
+    c.pack.ensures.1

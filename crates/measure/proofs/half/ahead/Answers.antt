@@ -49,15 +49,19 @@ stands c =
       at_in = omega (arith, made.0, left c.before.before.before.before.before.before);
       end_is = made.1 ∙ c.requires.1.end_is;
       corner-is = made.2 ∙ c.corner_at-corner.ensures
-          ∙ ap (corner ps) (sym (round-inner (length ps) (c.args.s.at + 1) (omega (arith, inner c.before.before.before.before.before.before))))
+          ∙ ap (corner ps) (sym
+          (round-inner (length ps) (c.args.s.at + 1) (omega (arith, inner c.before.before.before.before.before.before))))
           ∙ ap (corner_round ps) (sym made.0);
       no_edge = made.3;
     }
 
 pub facing-requires : goal.facing-requires
 facing-requires c =
-    let v = c.requires.0 in
-    (stands-fits v.in_range v.shape.some (stands c), small-corner _ v.in_range _ (inner c.before.before.before.before.before.before) c.corner_at-next.ensures)
+    let v = c.requires.0 in (
+      stands-fits v.in_range v.shape.some (stands c),
+      small-corner _ v.in_range _ (inner c.before.before.before.before.before.before)
+          c.corner_at-next.ensures,
+    )
 
 pub returns : goal.returns
 returns c =
@@ -68,5 +72,6 @@ returns c =
       c.facing.ensures.0 ∙ on ∙ sym (onward-inner ps c.args.s.at (omega (arith, left c.before.before.before.before.before.before.before))),
       carried-to (at c.corner_at-next.result) (stands c.before) c.facing.ensures
           (ap (λ q. q ⊖ corner_round ps m.at) (c.corner_at-next.ensures ∙ ap (corner ps) next)
-          ∙ edge-inner ps _ _ (stands c.before).end_is (omega (arith, on, left c.before.before.before.before.before.before.before, (stands c.before).end_is))),
+          ∙ edge-inner ps _ _ (stands c.before).end_is
+          (omega (arith, on, left c.before.before.before.before.before.before.before, (stands c.before).end_is))),
     )

@@ -47,7 +47,11 @@ pub returns : goal.returns
 returns c =
     let best = c.args.best in (
       replaced (pair_is c.before.before) (subst (λ (p : Length). Behind best p) (pair_is c.before.before)
-          (record { no-further = omega (arith, c.if-squared-best.false); no-earlier = λ g. absurd (omega (arith, c.if-squared-best.false)) })),
+          (record {
+            no-further = omega (arith, c.if-squared-best.false);
+            no-earlier = λ g. absurd
+                (omega (arith, c.if-squared-best.false));
+          })),
       le_refl _,
       le_refl _,
     )

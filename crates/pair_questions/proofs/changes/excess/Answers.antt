@@ -30,5 +30,6 @@ beyond-requires c = let both = shapes c in (both.first-valid, both.second-valid)
 
 pub returns : goal.returns
 returns c =
-    c.told.ensures ∙ all-answered (ask_excess (one (goal.at.returns c).Start) (other (goal.at.returns c).Start)) (shapes (goal.at.returns c).In_default) tt
+    c.told.ensures ∙ all-answered (ask_excess (one (goal.at.returns c).Start) (other (goal.at.returns c).Start))
+    (shapes (goal.at.returns c).In_default) tt
     (ap (λ (vs : List ℤ). vs ++ (pos c.args.f ∷ [])) c.beyond.ensures)

@@ -31,6 +31,7 @@ returns c =
     let found = c.find.result in
     record {
       found = found;
-      reply-is = c.told.ensures ∙ all-answered (ask_separator (one (goal.at.returns c).Start) (other (goal.at.returns c).Start) found) (shapes (goal.at.returns c).In_default) tt refl;
+      reply-is = c.told.ensures ∙ all-answered (ask_separator (one (goal.at.returns c).Start) (other (goal.at.returns c).Start) found)
+          (shapes (goal.at.returns c).In_default) tt refl;
       found-is = λ none. c.find.ensures;
     }

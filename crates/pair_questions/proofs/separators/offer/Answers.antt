@@ -67,6 +67,7 @@ is_below-requires c =
 
 pub returns : goal.returns
 returns c =
-    all-answered (asked (goal.at.returns c).Start) (shapes (goal.at.returns c).In_default) (passed (goal.at.returns c).In_default-admit_direction)
+    all-answered (asked (goal.at.returns c).Start) (shapes (goal.at.returns c).In_default)
+    (passed (goal.at.returns c).In_default-admit_direction)
     (ap (λ (t : Bool). cond t (pos 1) (pos 0) ∷ pos c.args.f ∷ []) (c.is_below.ensures
     ∙ ap (λ (d : Point). below d (points c.args.a.now) (points c.args.b.now)) (direction-is (goal.at.returns c).Start)))

@@ -68,7 +68,8 @@ least-high-requires c = (c.requires.0, good c.before)
 
 -- the two values, and that they are small
 low : (c : After-reach-low) →
-    let S = support (widest_of (one c.before.before.before) (other c.before.before.before)) (other c.before.before.before) in (c.reach-low.result ≡ S) × Within 4_000_000_000_000 S
+    let S = support (widest_of (one c.before.before.before) (other c.before.before.before)) (other c.before.before.before) in
+    (c.reach-low.result ≡ S) × Within 4_000_000_000_000 S
 low c =
     let v = c.requires.1 in
     let near = direction-near _ (subst (λ (d : Point). bad_direction d ≡ false) (name c.before) (good c.before)) in (
@@ -77,11 +78,13 @@ low c =
     )
 
 high : (c : After-least-high) →
-    let S = least (widest_of (one c.before.before.before.before) (other c.before.before.before.before)) (one c.before.before.before.before) in (c.least-high.result ≡ S) × Within 4_000_000_000_000 S
+    let S = least (widest_of (one c.before.before.before.before) (other c.before.before.before.before)) (one c.before.before.before.before)
+    in (c.least-high.result ≡ S) × Within 4_000_000_000_000 S
 unfolding least
 high c =
     let v = c.requires.0 in
-    let near = direction-near _ (opposite-good _ (subst (λ (d : Point). bad_direction d ≡ false) (name c.before.before) (good c.before.before))) in (
+    let near = direction-near _
+    (opposite-good _ (subst (λ (d : Point). bad_direction d ≡ false) (name c.before.before) (good c.before.before))) in (
       c.least-high.ensures ∙ ap (λ (d : Point). least d (one c.before.before.before.before)) (name c.before.before),
       within-neg (support-size c.args.a.now v.in_range near.0 near.1 v.shape.some),
     )
@@ -96,7 +99,8 @@ overflow_sub-high c =
 
 gap_is : (c : After-least-high) →
     to_z w64 (of_z w64 (to_z w64 (of_z w64 c.least-high.result) -ℤ to_z w64 (of_z w64 c.reach-low.result)))
-    ≡ gap_in (widest_of (one c.before.before.before.before) (other c.before.before.before.before)) (one c.before.before.before.before) (other c.before.before.before.before)
+    ≡ gap_in (widest_of (one c.before.before.before.before) (other c.before.before.before.before)) (one c.before.before.before.before)
+    (other c.before.before.before.before)
 unfolding gap_in
 gap_is c =
     let (e, h) = high c in
@@ -108,18 +112,22 @@ gap_is c =
 pub width-requires : goal.width-requires
 width-requires c =
     let pre = c.requires in (
-      rw (gap_is c) (weaken (widest-positive (one c.before.before.before.before) (other c.before.before.before.before) pre.0.shape pre.1.shape pre.2)),
+      rw (gap_is c) (weaken
+          (widest-positive (one c.before.before.before.before) (other c.before.before.before.before) pre.0.shape pre.1.shape pre.2)),
       good c.before.before,
     )
 
 pub returns : goal.returns
 returns c =
     let direction = ap (λ (p : Point). point (to_z w32 (of_z w32 p.x)) (to_z w32 (of_z w32 p.y))) (name c.before.before.before.before)
-    ∙ point-read (small-wide (good-small _ (subst (λ (d : Point). bad_direction d ≡ false) (name c.before.before.before.before) (good c.before.before.before.before)))) in
+    ∙ point-read (small-wide
+    (good-small _ (subst (λ (d : Point). bad_direction d ≡ false) (name c.before.before.before.before)
+    (good c.before.before.before.before)))) in
     let (e, h) = low c.before.before.before in
     let (f, k) = high c.before.before in
     let width = c.width.ensures
-    ∙ ap₂ (λ (z : ℤ) (d : Point). root_below (nat_abs z * nat_abs z) (nat_abs (value d d))) (gap_is c.before.before) (name c.before.before.before.before) in
+    ∙ ap₂ (λ (z : ℤ) (d : Point). root_below (nat_abs z * nat_abs z) (nat_abs (value d d))) (gap_is c.before.before)
+    (name c.before.before.before.before) in
     ap₂ (λ (p : Point) (vs : List ℤ). pos 1 ∷ p.x ∷ p.y ∷ vs) direction
     (ap₂ (λ (z : ℤ) (vs : List ℤ). z ∷ vs) (machine-is (machine-read w64 _ (known e h)) tt)
     (ap₂ (λ (z : ℤ) (w : ℕ). z ∷ pos w ∷ []) (machine-is (machine-read w64 _ (known f k)) tt) width))

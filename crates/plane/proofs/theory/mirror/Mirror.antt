@@ -6,7 +6,8 @@
 --     mirror-known                   begun at the top of a shape they are the shape of the mirrored set
 --     mirror-count                   that shape has as many corners
 use Rattle.std.specs.Prelude.{◌≡◌, refl, Bool, true, false, ◌⊎◌, List, [], ◌∷◌, ◌++◌, ℕ, zero, suc, ◌+◌, ◌*◌, ◌-◌, ◌<◌, length, take, drop}
-use Rattle.std.proofs.Common.{sym, ◌∙◌, ap, subst, true≢false, inl, inr, add-one, arith, below_more, length-append, length-drop, take-append-drop, get_or-append-add, get_or-drop, get_or-take, length-take-le}
+use Rattle.std.proofs.Common.{sym, ◌∙◌, ap, subst, true≢false, inl, inr, add-one, arith, below_more, length-append, length-drop}
+use Rattle.std.proofs.Common.{take-append-drop, get_or-append-add, get_or-drop, get_or-take, length-take-le}
 use mathlib.Core.List.Memᴰ
 use Rattle.std.proofs.lemmas.List.{length-map}
 use Rattle.std.proofs.Math.ListN.{get_or-append, get_or-map}

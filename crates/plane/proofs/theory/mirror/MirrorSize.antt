@@ -29,7 +29,8 @@ module _ (l : List ℤ) (v : Valid l) where
   image = shape_of (mirrored (points l))
 
   mirrored_from-in_range : (t : ℕ) → t < length (points l) → InRange (numbers (mirrored_from (points l) t))
-  mirrored_from-in_range t h = numbers-in_range (mirrored_from (points l) t) (λ k b. near k (omega (arith, mirrored_from-length (points l) t h)))
+  mirrored_from-in_range t h = numbers-in_range (mirrored_from (points l) t)
+      (λ k b. near k (omega (arith, mirrored_from-length (points l) t h)))
     where
       near : (k : ℕ) → k < length (points l) → Near (corner (mirrored_from (points l) t) k)
       near k b = subst Near (sym (mirrored_from-at (points l) t h k b))

@@ -9,7 +9,8 @@
 --     in-order-at, in-order-non-zero  edges in order, at their positions; `shape-in-order`: those of a shape are
 --     corner-injective                a shape's corners are pairwise different
 --     edge-turn                       no corner is right of an edge; `next-left`: of three or more the one after it is left of it
-use Rattle.std.specs.Prelude.{◌≡◌, refl, Bool, true, false, cond, List, [], ◌∷◌, ℕ, zero, suc, ◌+◌, ◌≤◌, ◌<◌, eqb, ltb, pos, length, take, ◌≤ℤ◌}
+use Rattle.std.specs.Prelude.{◌≡◌, refl, Bool, true, false, cond, List, [], ◌∷◌, ℕ, zero, suc, ◌+◌, ◌≤◌, ◌<◌, eqb, ltb, pos, length, take}
+use Rattle.std.specs.Prelude.{◌≤ℤ◌}
 use Rattle.std.proofs.Common.{sym, ◌∙◌, ap, not-suc-le-zero, add-one, arith, eqb-true, ne_eqb, ltb-true, ltb-false}
 use Rattle.std.proofs.Math.Decide.{ℕ_discrete}
 use Rattle.std.proofs.lemmas.Bool.{eqb-false}

@@ -18,8 +18,10 @@ first-is x y h = ap (λ (b : Bool). elim b [ true ↦ y | false ↦ x ]) (sym h)
 
 pub returns-then-x-y : goal.returns-then-x-y
 returns-then-x-y c =
-    to_z-of_z {w = w32} c.ranges.y ∙ second_is _ _ (sym (ap₂ le_z (to_z-of_z {w = w32} c.ranges.x) (to_z-of_z {w = w32} c.ranges.y)) ∙ c.if-x-y.true)
+    to_z-of_z {w = w32} c.ranges.y ∙ second_is _ _
+    (sym (ap₂ le_z (to_z-of_z {w = w32} c.ranges.x) (to_z-of_z {w = w32} c.ranges.y)) ∙ c.if-x-y.true)
 
 pub returns-else-x-y : goal.returns-else-x-y
 returns-else-x-y c =
-    to_z-of_z {w = w32} c.ranges.x ∙ first-is _ _ (sym (ap₂ le_z (to_z-of_z {w = w32} c.ranges.x) (to_z-of_z {w = w32} c.ranges.y)) ∙ c.if-x-y.false)
+    to_z-of_z {w = w32} c.ranges.x ∙ first-is _ _
+    (sym (ap₂ le_z (to_z-of_z {w = w32} c.ranges.x) (to_z-of_z {w = w32} c.ranges.y)) ∙ c.if-x-y.false)

@@ -9,7 +9,8 @@ use Rattle.query.proofs.readings.is_nan.Goals as goal
 
 pub returns-then-bits-eq-ONES : goal.returns-then-bits-eq-ONES
 unfolding nan_bits
-returns-then-bits-eq-ONES c = ap (λ (b : Bool). b && not (eqb (c.args.bits % 4503599627370496) 0)) (sym (eq-eqb _ 2047 c.if-bits-eq-ONES.true))
+returns-then-bits-eq-ONES c = ap (λ (b : Bool). b && not (eqb (c.args.bits % 4503599627370496) 0))
+    (sym (eq-eqb _ 2047 c.if-bits-eq-ONES.true))
 
 pub returns : goal.returns
 unfolding nan_bits

@@ -57,16 +57,20 @@ module _ (c : After-turn_at) where
 -- it turns left
 left_there : (c : Else-not-turn_at) →
     let i = c.args.i in
-    lt_z (pos 0) (turn (point (goal.at.Else-not-turn_at c).After-turn_at (previous (all (goal.at.Else-not-turn_at c).After-turn_at) i)) (point (goal.at.Else-not-turn_at c).After-turn_at i) (point (goal.at.Else-not-turn_at c).After-turn_at (next (all (goal.at.Else-not-turn_at c).After-turn_at) i))) ≡ true
+    lt_z (pos 0) (turn (point (goal.at.Else-not-turn_at c).After-turn_at (previous (all (goal.at.Else-not-turn_at c).After-turn_at) i))
+    (point (goal.at.Else-not-turn_at c).After-turn_at i)
+    (point (goal.at.Else-not-turn_at c).After-turn_at (next (all (goal.at.Else-not-turn_at c).After-turn_at) i))) ≡ true
 left_there c = sym (ap (lt_z (pos 0)) (turned (goal.at.Else-not-turn_at c).After-turn_at)) ∙ c.if-not-turn_at.false
 
 pub returns-then-not-turn_at : goal.returns-then-not-turn_at
 returns-then-not-turn_at c =
-    sym (turn_inside _ _ _ (three (goal.at.returns-then-not-turn_at c).After-turn_at) (sym (ap (lt_z (pos 0)) (turned (goal.at.returns-then-not-turn_at c).After-turn_at)) ∙ c.if-not-turn_at.true))
+    sym (turn_inside _ _ _ (three (goal.at.returns-then-not-turn_at c).After-turn_at)
+    (sym (ap (lt_z (pos 0)) (turned (goal.at.returns-then-not-turn_at c).After-turn_at)) ∙ c.if-not-turn_at.true))
 
 pub returns-then-i-eq0 : goal.returns-then-i-eq0
 returns-then-i-eq0 c =
-    sym (first-inside _ _ _ (three (goal.at.returns-then-i-eq0 c).After-turn_at) (left_there (goal.at.returns-then-i-eq0 c).Else-not-turn_at) (omega (arith, c.if-i-eq0.true)))
+    sym (first-inside _ _ _ (three (goal.at.returns-then-i-eq0 c).After-turn_at)
+    (left_there (goal.at.returns-then-i-eq0 c).Else-not-turn_at) (omega (arith, c.if-i-eq0.true)))
 
 pub precedes_at-requires : goal.precedes_at-requires
 precedes_at-requires c =
@@ -76,10 +80,13 @@ precedes_at-requires c =
 pub returns-then-not-precedes_at : goal.returns-then-not-precedes_at
 returns-then-not-precedes_at c =
     let i = c.args.i in
-    let told = ap (λ (k : ℕ). precedes (point (goal.at.returns-then-not-precedes_at c).After-turn_at i) (point (goal.at.returns-then-not-precedes_at c).After-turn_at k)) (sym (before-is (goal.at.returns-then-not-precedes_at c).After-turn_at)) ∙ sym
+    let told = ap (λ (k : ℕ). precedes (point (goal.at.returns-then-not-precedes_at c).After-turn_at i)
+    (point (goal.at.returns-then-not-precedes_at c).After-turn_at k))
+    (sym (before-is (goal.at.returns-then-not-precedes_at c).After-turn_at)) ∙ sym
     c.precedes_at.ensures
     ∙ c.if-not-precedes_at.true in
-    sym (apart-inside _ _ _ (three (goal.at.returns-then-not-precedes_at c).After-turn_at) (left_there (goal.at.returns-then-not-precedes_at c).Else-not-turn_at) (omega (arith, c.if-i-eq0.false)) told)
+    sym (apart-inside _ _ _ (three (goal.at.returns-then-not-precedes_at c).After-turn_at)
+    (left_there (goal.at.returns-then-not-precedes_at c).Else-not-turn_at) (omega (arith, c.if-i-eq0.false)) told)
 
 pub precedes_at-requires-2 : goal.precedes_at-requires-2
 precedes_at-requires-2 c =
@@ -89,7 +96,11 @@ precedes_at-requires-2 c =
 pub returns : goal.returns
 returns c =
     let i = c.args.i in
-    let told = ap (λ (k : ℕ). precedes (point (goal.at.returns c).After-turn_at i) (point (goal.at.returns c).After-turn_at k)) (sym (before-is (goal.at.returns c).After-turn_at)) ∙ sym c.precedes_at.ensures
+    let told = ap (λ (k : ℕ). precedes (point (goal.at.returns c).After-turn_at i) (point (goal.at.returns c).After-turn_at k))
+    (sym (before-is (goal.at.returns c).After-turn_at)) ∙ sym c.precedes_at.ensures
     ∙ c.if-not-precedes_at.false in
-    c.precedes_at-2.ensures ∙ ap (λ (k : ℕ). precedes (point (goal.at.returns c).After-turn_at i) (point (goal.at.returns c).After-turn_at k)) (after_is (goal.at.returns c).After-turn_at)
-    ∙ sym (both-inside _ _ _ (three (goal.at.returns c).After-turn_at) (left_there (goal.at.returns c).Else-not-turn_at) (omega (arith, c.if-i-eq0.false)) told)
+    c.precedes_at-2.ensures ∙ ap
+    (λ (k : ℕ). precedes (point (goal.at.returns c).After-turn_at i) (point (goal.at.returns c).After-turn_at k))
+    (after_is (goal.at.returns c).After-turn_at)
+    ∙ sym (both-inside _ _ _ (three (goal.at.returns c).After-turn_at) (left_there (goal.at.returns c).Else-not-turn_at)
+    (omega (arith, c.if-i-eq0.false)) told)

@@ -59,7 +59,10 @@ pub less_closing-requires : goal.less_closing-requires
 less_closing-requires c =
     let b = length (points c.args.list.now) in (
       omega (arith, c.requires.0, c.requires.1),
-      subst (λ (i : ℕ). i < b) (sym (last-is (goal.at.less_closing-requires c).After-gather-count)) (under_at b (all (goal.at.less_closing-requires c).After-gather-count) (under (goal.at.less_closing-requires c).After-gather-count) (length (all (goal.at.less_closing-requires c).After-gather-count) - 1) (omega arith)),
+      subst (λ (i : ℕ). i < b) (sym (last-is (goal.at.less_closing-requires c).After-gather-count))
+          (under_at b (all (goal.at.less_closing-requires c).After-gather-count)
+          (under (goal.at.less_closing-requires c).After-gather-count)
+          (length (all (goal.at.less_closing-requires c).After-gather-count) - 1) (omega arith)),
     )
 
 pub returns : goal.returns
@@ -72,9 +75,11 @@ returns c =
     let l = c.gather-count.new.kept in
     let counted = c.gather-count.ensures.counted in
     let test =
-    ap₂ (λ (m i : ℕ). ltb 1 m && same_point (corner ps s) (corner ps i)) counted (last-is (goal.at.returns c).After-gather-count) ∙ sym (closed_at (f (goal.at.returns c).After-gather-count) 0 xs) in
+    ap₂ (λ (m i : ℕ). ltb 1 m && same_point (corner ps s) (corner ps i)) counted (last-is (goal.at.returns c).After-gather-count) ∙ sym
+    (closed_at (f (goal.at.returns c).After-gather-count) 0 xs) in
     let count = c.less_closing.ensures ∙ ap (λ (t : Bool). cond t (k - 1) k) test in
     subst (λ (r : ℕ). Held (distinct (f (goal.at.returns c).After-gather-count) (walked n s n)) r l) (sym count)
-    (subst (λ (w : List ℕ). Held (distinct (f (goal.at.returns c).After-gather-count) w) (cond (closed (f (goal.at.returns c).After-gather-count) xs) (k - 1) k) l)
+    (subst (λ (w : List ℕ). Held (distinct (f (goal.at.returns c).After-gather-count) w)
+    (cond (closed (f (goal.at.returns c).After-gather-count) xs) (k - 1) k) l)
     (sym (walked_whole n s (omega (arith, c.requires.1))))
     (held-less (closed (f (goal.at.returns c).After-gather-count) xs) c.gather-count.ensures))

@@ -64,7 +64,8 @@ loop-i-preserved c =
     ∙ ap (λ (b : Bool). optional (not b) to ++ rest) (sym c.same_at.ensures) in (
       coming-keep (not c.same_at.result) to (subst (λ (r : List ℕ). Coming (total (goal.at.loop-i-preserved c).Start) r c.loop-i.count
           c.loop-i.kept) coming c.loop-i.invariant.0)
-          c.keep-count.ensures.0 (omega (arith, c.keep-count.ensures.1, c.keep-count.ensures.2, room (goal.at.loop-i-preserved c).In-loop-i)),
+          c.keep-count.ensures.0
+          (omega (arith, c.keep-count.ensures.1, c.keep-count.ensures.2, room (goal.at.loop-i-preserved c).In-loop-i)),
       c.next-to.ensures.upper_bound,
       omega (arith, c.keep-count.ensures.1, c.loop-i.invariant.2),
       omega arith,

@@ -37,7 +37,8 @@ loop-k-init c = (filled-start _ _, zero-le)
 
 length-kept : (c : At-loop-k) → length c.loop-k.shape ≡ length c.args.shape.now
 length-kept c =
-    filled-length c.loop-k.invariant.0 (omega (arith, two-each c.before, c.loop-k.invariant.1)) (omega (arith, c.requires.2, c.loop-k.invariant.1))
+    filled-length c.loop-k.invariant.0 (omega (arith, two-each c.before, c.loop-k.invariant.1))
+    (omega (arith, c.requires.2, c.loop-k.invariant.1))
 
 pub place_at-requires : goal.place_at-requires
 place_at-requires c = (c.requires.1, c.loop-k-test.true)
@@ -54,11 +55,19 @@ loop-k-preserved c =
     let k = c.loop-k.k in
     let ps = map (f c.before.before.before.before.before.before.before) (places c.before.before.before.before.before.before.before) in
     let at = c.corner_at.ensures ∙ ap (f c.before.before.before.before.before.before.before) c.place_at.ensures.0
-    ∙ sym (map_at (f c.before.before.before.before.before.before.before) (places c.before.before.before.before.before.before.before) k (omega (arith, c.loop-k-test.true, counted c.before.before.before.before.before.before.before))) in (
+    ∙ sym (map_at (f c.before.before.before.before.before.before.before) (places c.before.before.before.before.before.before.before) k
+    (omega (arith, c.loop-k-test.true, counted c.before.before.before.before.before.before.before))) in (
       subst (λ (out : List ℤ). Filled c.args.shape.now (numbers ps) (2 * (k + 1)) out) (sym c.put.ensures)
           (filled-corner ps k c.loop-k.invariant.0
-          (omega (arith, c.loop-k-test.true, counted c.before.before.before.before.before.before.before, length-map (places c.before.before.before.before.before.before.before) (f c.before.before.before.before.before.before.before)))
-          (omega (arith, two-each c.before.before.before.before.before.before.before, c.requires.2)) (ap (λ (p : Point). p.x) at) (ap (λ (p : Point). p.y) at)),
+          (omega (
+            arith,
+            c.loop-k-test.true,
+            counted c.before.before.before.before.before.before.before,
+            length-map
+                (places c.before.before.before.before.before.before.before) (f c.before.before.before.before.before.before.before),
+          ))
+          (omega (arith, two-each c.before.before.before.before.before.before.before, c.requires.2)) (ap (λ (p : Point). p.x) at)
+          (ap (λ (p : Point). p.y) at)),
       omega (arith, c.loop-k-test.true),
     )
 

@@ -44,8 +44,11 @@ pub returns-then-turn-eq0 : goal.returns-then-turn-eq0
 returns-then-turn-eq0 c e = absurd (false≢true e)
 
 pub arrange-requires : goal.arrange-requires
-arrange-requires c =
-    (omega (arith, c.requires.1.all, opened-le (λ p. p) (points c.args.list.now)), begins c.before.before.before.before.before, c.requires.2)
+arrange-requires c = (
+  omega (arith, c.requires.1.all, opened-le (λ p. p) (points c.args.list.now)),
+  begins c.before.before.before.before.before,
+  c.requires.2,
+)
 
 pub slice_bounds-passes-end-2 : goal.slice_bounds-passes-end-2
 slice_bounds-passes-end-2 c =

@@ -20,8 +20,12 @@ abbrev sense : Start → List ℕ
 sense c = in_sense c.args.back c.args.kept.now
 
 pub loop-j-init : goal.loop-j-init
-loop-j-init c =
-    (record { joined = bends-start (corner (points c.args.list.now)) (sense (goal.at.loop-j-init c).Start); within = zero-le }, zero-le, zero-le, refl)
+loop-j-init c = (
+  record { joined = bends-start (corner (points c.args.list.now)) (sense (goal.at.loop-j-init c).Start); within = zero-le },
+  zero-le,
+  zero-le,
+  refl,
+)
 
 pub bends_at-bend-requires : goal.bends_at-bend-requires
 bends_at-bend-requires c = (c.requires.0, c.loop-j-test.true)
@@ -51,7 +55,8 @@ loop-j-preserved c =
     ∙ ap₂ (λ (b : Bool) (x : ℕ). optional b x ++ rest) (sym bend) (sym c.place.ensures) in (
       coming-keep c.bends_at-bend.result c.place.result
           (subst (λ (r : List ℕ). Coming (bends f xs) r c.loop-j.count c.loop-j.bent) coming c.loop-j.invariant.0)
-          c.keep-count.ensures.0 (omega (arith, c.keep-count.ensures.1, c.keep-count.ensures.2, room (goal.at.loop-j-preserved c).In-loop-j)),
+          c.keep-count.ensures.0
+          (omega (arith, c.keep-count.ensures.1, c.keep-count.ensures.2, room (goal.at.loop-j-preserved c).In-loop-j)),
       omega (arith, c.keep-count.ensures.1, c.loop-j.invariant.1),
       omega (arith, c.loop-j-test.true),
       c.keep-count.ensures.2 ∙ c.loop-j.invariant.3,

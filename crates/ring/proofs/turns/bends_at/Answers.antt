@@ -48,6 +48,8 @@ pub returns : goal.returns
 returns c =
     let ps = points c.args.list.now in
     ap not (c.straight_at.ensures
-    ∙ ap₂ (λ (a d : ℕ). straight (corner ps a) (corner ps c.place.result) (corner ps d)) (is-before (goal.at.returns c).After-place) (is-after (goal.at.returns c).After-place)
-    ∙ ap (λ (b : ℕ). straight (corner ps (sense (goal.at.returns c).After-place (previous (all (goal.at.returns c).After-place) c.args.j))) (corner ps b)
+    ∙ ap₂ (λ (a d : ℕ). straight (corner ps a) (corner ps c.place.result) (corner ps d)) (is-before (goal.at.returns c).After-place)
+    (is-after (goal.at.returns c).After-place)
+    ∙ ap (λ (b : ℕ). straight (corner ps (sense (goal.at.returns c).After-place (previous (all (goal.at.returns c).After-place) c.args.j)))
+    (corner ps b)
     (corner ps (sense (goal.at.returns c).After-place (next (all (goal.at.returns c).After-place) c.args.j)))) c.place.ensures)

@@ -19,7 +19,8 @@ returns-then-turn-gt0 c =
 pub returns-then-turn-lt0 : goal.returns-then-turn-lt0
 returns-then-turn-lt0 c =
     let t = result-is w64 c.turn_at-turn.type_inv c.turn_at-turn.ensures in
-    sym (straight-right _ _ _ (ap (lt_z (pos 0)) (sym t) ∙ c.if-turn-gt0.false) (ap (λ (z : ℤ). lt_z z (pos 0)) (sym t) ∙ c.if-turn-lt0.true))
+    sym (straight-right _ _ _ (ap (lt_z (pos 0)) (sym t) ∙ c.if-turn-gt0.false)
+    (ap (λ (z : ℤ). lt_z z (pos 0)) (sym t) ∙ c.if-turn-lt0.true))
 
 pub step-come-requires : goal.step-come-requires
 step-come-requires c =

@@ -35,4 +35,8 @@ here-requires c = corners-fit (stands c) c.side_at.ensures.1 c.side_at-2.ensures
 pub returns : goal.returns
 returns c = let start = starts c.before.before.before in
     let is = c.here.ensures ∙ sides-here (stands c.before) c.side_at.ensures.1 c.side_at-2.ensures.1 in
-    record { result_value = is ∙ ap (here _ _) (begins c.before) ∙ corner-here _ _ start 0 (on_below _ _ start 0 zero-le refl); small = here-near (stands c.before) is }
+    record {
+      result_value = is ∙ ap (here _ _) (begins c.before) ∙ corner-here _ _ start 0 (on_below _ _ start 0 zero-le refl);
+      small =
+          here-near (stands c.before) is;
+    }

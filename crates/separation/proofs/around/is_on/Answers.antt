@@ -83,11 +83,14 @@ tested : (c : After-dot) →
 tested c =
     let first = c.side_at-s.ensures.1 in
     let second = c.side_at-t.ensures.1 in
-    let on = sides-advanced (stands c.before.before.before.before.before.before) first second (result-is w64 c.order-c.type_inv c.order-c.ensures)
+    let on = sides-advanced (stands c.before.before.before.before.before.before) first second
+    (result-is w64 c.order-c.type_inv c.order-c.ensures)
     c.next-m.result c.next-n.result c.next-m.ensures.0 c.next-n.ensures.0 refl in
-    result-is w64 c.dot.type_inv (c.dot.ensures ∙ ap₂ value (c.here.ensures ∙ sides-here (stands c.before.before.before.before.before.before) first second)
+    result-is w64 c.dot.type_inv
+    (c.dot.ensures ∙ ap₂ value (c.here.ensures ∙ sides-here (stands c.before.before.before.before.before.before) first second)
     (c.here-2.ensures ∙ sides-here (steps c.before.before.before _) c.next-m.ensures.1 c.next-n.ensures.1)
-    ∙ passing-corners (passing-start (starts c.before.before.before.before.before.before.before.before) (begins c.before.before.before.before.before.before)) refl on value)
+    ∙ passing-corners (passing-start (starts c.before.before.before.before.before.before.before.before)
+    (begins c.before.before.before.before.before.before)) refl on value)
 
 pub returns : goal.returns
 unfolding origin_on

@@ -144,7 +144,8 @@ pub overflow_add-m : goal.overflow_add-m
 overflow_add-m c =
     let first = c.next-m.ensures.1.at_in in
     let second = c.next-n.ensures.1.at_in in
-    omega (arith, fits c.before.before.before.before.before.before.before.before.before.before.before.before.before.before.before.before.before.before)
+    let at-loop = c.before.before.before.before.before.before.before.before.before.before in
+    omega (arith, fits at-loop.before.before.before.before.before.before.before.before)
 
 pub either-requires : goal.either-requires
 either-requires c = tt
@@ -167,7 +168,8 @@ turn_is c end = result-is w64 c.cross-turn.type_inv (c.cross-turn.ensures ∙ ap
 pub returns-then-either : goal.returns-then-either
 returns-then-either c = let strode = c.stride-far.ensures in
     let inv = c.loop-m.invariant in record {
-      passed = passing-stop inv.0 refl (advances c.before.before.before.before.before.before.before.before) (turn_is c.before.before.before.before.before.before _) c.either-rim.ensures c.passed_normal.result
+      passed = passing-stop inv.0 refl (advances c.before.before.before.before.before.before.before.before)
+          (turn_is c.before.before.before.before.before.before _) c.either-rim.ensures c.passed_normal.result
           (c.passed_normal.ensures ∙ ap₂ (cond (ltb c.loop-m.s.at c.next-m.result.at))
           (ap₂ outward inv.1.corner-is c.next-m.ensures.1.corner-is)
           (ap₂ outward inv.2.corner-is c.next-n.ensures.1.corner-is))
@@ -191,7 +193,8 @@ loop-m-preserved c =
     (λ e. eqb-false _ _ neither.1 (e ∙ sym (image-sides strode.first-side strode.second-side))) in (
       subst (λ (o : Bool). Passing args.a.now (image args.b.now) (walk_of c.next-m.result c.next-n.result o)
           (c.loop-m.count + 1) c.either-rim.result) on
-          (passing-more inv.0 refl (advances c.before.before.before.before.before.before.before) (turn_is c.before.before.before.before.before _) neither.0 c.either-rim.ensures),
+          (passing-more inv.0 refl (advances c.before.before.before.before.before.before.before)
+          (turn_is c.before.before.before.before.before _) neither.0 c.either-rim.ensures),
       c.next-m.ensures.1,
       c.next-n.ensures.1,
     )

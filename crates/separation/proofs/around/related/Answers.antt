@@ -48,12 +48,14 @@ is_on-requires c = let pre = c.requires in (pre.0, pre.1, pre.2)
 pub returns-then-is_on : goal.returns-then-is_on
 unfolding origin_in
 returns-then-is_on c =
-    told c.before.before.before.before.before (rw (inner c.before.before.before.before, few c.before.before, sym c.is_on.ensures ∙ c.if-is_on.true) refl)
+    told c.before.before.before.before.before
+    (rw (inner c.before.before.before.before, few c.before.before, sym c.is_on.ensures ∙ c.if-is_on.true) refl)
 
 pub returns-then-sides-lt3 : goal.returns-then-sides-lt3
 unfolding origin_in
 returns-then-sides-lt3 c =
-    told c.before.before.before.before.before (rw (inner c.before.before.before.before, few c.before.before, sym c.is_on.ensures ∙ c.if-is_on.false) refl)
+    told c.before.before.before.before.before
+    (rw (inner c.before.before.before.before, few c.before.before, sym c.is_on.ensures ∙ c.if-is_on.false) refl)
 
 pub returns-then-sides-2 : goal.returns-then-sides-2
 unfolding origin_in

@@ -128,7 +128,8 @@ returns-then-s-t c =
     c.next-s.ensures.0 c.next-t.ensures.0 c.next-s.ensures.1 c.next-t.ensures.1
     (c.if-s-t.true ∙ image-sides c.side_at-first.ensures.1
     c.side_at-second.ensures.1) in
-    let went = progress-done (written c.before.before.before.before.before.before.before.before.before.before) c.here.ensures c.put.ensures end
+    let went = progress-done (written c.before.before.before.before.before.before.before.before.before.before) c.here.ensures c.put.ensures
+    end
     (record { count = c.loop-s.count + 1; first = m.at; second = n.at; over = true }) refl refl in
     let all-next = image-all _ _ c.requires.0 c.requires.1 (enough c.args.a.now c.args.b.now) (omega arith) in
     (went.0.counted ∙ ap length all-next, went.1 ∙ ap (λ (ps : List Point). overwritten (numbers ps) c.args.out.now) all-next)

@@ -22,7 +22,8 @@ use Rattle.separation.specs.Passing.{Strode}
 use Rattle.separation.specs.theory.Image.{image-begun, image-few}
 use Rattle.separation.proofs.Striding.{strode-start, strode-at, strode-first, strode-second, strode-both, strode-same, goes_on}
 use Rattle.separation.proofs.stride.stride.Goals as goal
-use Rattle.separation.proofs.stride.stride.Goals.{After-order-c, At-loop-from, Joined-c-gt0, Start, then-c-gt0+else-moment-le0, else-c-gt0+then-c-lt0+else-moment-le0-2, else-c-gt0+else-c-lt0+else-joint_moment-le0}
+use Rattle.separation.proofs.stride.stride.Goals.{After-order-c, At-loop-from, Joined-c-gt0, Start, then-c-gt0+else-moment-le0}
+use Rattle.separation.proofs.stride.stride.Goals.{else-c-gt0+then-c-lt0+else-moment-le0-2, else-c-gt0+else-c-lt0+else-joint_moment-le0}
 
 pub side_at-s-requires : goal.side_at-s-requires
 side_at-s-requires c = (omega arith, c.requires.0.in_range, c.requires.0.shape.some)
@@ -127,7 +128,13 @@ ahead-t-requires-else-c-lt0 c = second-ahead c.before.before.before.before.befor
 pub overflow_add-joined : goal.overflow_add-joined
 overflow_add-joined c =
     let p = c.loop-from.invariant.0 in
-    omega (arith, p.counted, bound (start c.before.before.before.before.before.before.before.before) p, c.loop-from.invariant.1, p.first-side.end_is)
+    omega (
+      arith,
+      p.counted,
+      bound (start c.before.before.before.before.before.before.before.before) p,
+      c.loop-from.invariant.1,
+      p.first-side.end_is,
+    )
 
 -- one side went on, or both: the walk is further, and less is left
 further : (c : Joined-c-gt0) →

@@ -56,14 +56,22 @@ small : (c : After-divisor-g) → Small (2 ^ 22) (primitive (at c.args.d))
 small c = let pre = c.requires in primitive-small (2 ^ 22) _ pre.0 pre.1
 
 pub nonzero_div-result : goal.nonzero_div-result
-nonzero_div-result c =
-    ((fits (goal.at.nonzero_div-result c).After-divisor-g).0, subst (SFits w32) (sym (first (goal.at.nonzero_div-result c).After-divisor-g)) (part-fits (small (goal.at.nonzero_div-result c).After-divisor-g).small-x))
+nonzero_div-result c = (
+  (fits (goal.at.nonzero_div-result c).After-divisor-g).0,
+  subst (SFits w32) (sym (first (goal.at.nonzero_div-result c).After-divisor-g))
+      (part-fits (small (goal.at.nonzero_div-result c).After-divisor-g).small-x),
+)
 
 pub nonzero_div-result-2 : goal.nonzero_div-result-2
-nonzero_div-result-2 c =
-    ((fits (goal.at.nonzero_div-result-2 c).After-divisor-g).0, subst (SFits w32) (sym (second (goal.at.nonzero_div-result-2 c).After-divisor-g)) (part-fits (small (goal.at.nonzero_div-result-2 c).After-divisor-g).small-y))
+nonzero_div-result-2 c = (
+  (fits (goal.at.nonzero_div-result-2 c).After-divisor-g).0,
+  subst (SFits w32)
+      (sym (second (goal.at.nonzero_div-result-2 c).After-divisor-g))
+      (part-fits (small (goal.at.nonzero_div-result-2 c).After-divisor-g).small-y),
+)
 
 pub returns : goal.returns
 returns c =
-    ap₂ (λ (x y : ℤ). point (to_z w32 (of_z w32 x)) (to_z w32 (of_z w32 y))) (first (goal.at.returns c).After-divisor-g) (second (goal.at.returns c).After-divisor-g)
+    ap₂ (λ (x y : ℤ). point (to_z w32 (of_z w32 x)) (to_z w32 (of_z w32 y))) (first (goal.at.returns c).After-divisor-g)
+    (second (goal.at.returns c).After-divisor-g)
     ∙ point-read (small (goal.at.returns c).After-divisor-g)

@@ -48,7 +48,8 @@ returns c =
     let shape = c.args.shape.now in
     let all = ap length c.requires.1 in
     all-written (asked c.before.before.before.before.before) tt
-    (ring-passes l out c.requires.0 (quiet c.before.before.before.before.before) (omega (arith, c.if-out-shape.false, all, counted-shape l out c.requires.0)))
+    (ring-passes l out c.requires.0 (quiet c.before.before.before.before.before)
+    (omega (arith, c.if-out-shape.false, all, counted-shape l out c.requires.0)))
     (ap (λ (n : ℕ). pos n ∷ pos c.args.floor ∷ []) (c.count.ensures ∙ ap length (read c.before.before.before.before.before)))
     (copied shape (omega (arith, all, numbers-length (ring_shape (ps c.before.before.before.before.before)))) out c.copy.ensures
     ∙ ap (λ (qs : List Point). overwritten (numbers qs) out) (read c.before.before.before.before.before))

@@ -63,7 +63,8 @@ quiet c =
 
 pub returns-then-out-n : goal.returns-then-out-n
 returns-then-out-n c =
-    rest-refused (asked (goal.at.returns-then-out-n c).Start) tt (room-refuses c.args.list.now c.args.out.now c.requires.0 (quiet (goal.at.returns-then-out-n c).Else-at-n)
+    rest-refused (asked (goal.at.returns-then-out-n c).Start) tt
+    (room-refuses c.args.list.now c.args.out.now c.requires.0 (quiet (goal.at.returns-then-out-n c).Else-at-n)
     (subst (λ (xs : List ℕ). length c.args.out.now < 2 * length xs) c.requires.1 c.if-out-n.true))
 
 pub write-requires : goal.write-requires

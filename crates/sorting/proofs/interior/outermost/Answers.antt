@@ -50,7 +50,8 @@ pub corner_at-q-requires : goal.corner_at-q-requires
 corner_at-q-requires c = more c
 
 read : (c : After-corner_at-q) → Small (2 ^ 21) (at c.corner_at-q.result)
-read c = small c.before.before.before.before.before.before.before.before.before.before.before.before.before c.loop-i.i (more c.before) c.corner_at-q.ensures
+read c = small c.before.before.before.before.before.before.before.before.before.before.before.before.before c.loop-i.i (more c.before)
+    c.corner_at-q.ensures
 
 pub northeast-x-requires : goal.northeast-x-requires
 northeast-x-requires c = read c

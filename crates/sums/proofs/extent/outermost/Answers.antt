@@ -36,7 +36,8 @@ left c =
 pub returns : goal.returns
 returns c =
     let ps = points c.args.list.now in
-    extended ps c.requires.shape (top c.before.before.before.before.before.before.before.before.before.before) c.turning-right.ensures (left c.before.before.before.before.before.before.before.before)
+    extended ps c.requires.shape (top c.before.before.before.before.before.before.before.before.before.before) c.turning-right.ensures
+    (left c.before.before.before.before.before.before.before.before)
     (c.across-high.ensures ∙ ap₂ crossing c.corner_at.ensures c.corner_at-2.ensures)
     (c.opposite.ensures ∙ ap opposite (c.across-low.ensures ∙ ap₂ crossing
     (c.corner_at-3.ensures ∙ ap (corner ps) c.round-left.ensures.value)

@@ -93,7 +93,12 @@ put-requires c = progress-room (now c.before.before)
 
 pub overflow_add-count : goal.overflow_add-count
 overflow_add-count c =
-    omega (arith, progress-room (now c.before.before.before.before), progress-length (now c.before.before.before.before), c.well_formed.1.1.1.1.1.0)
+    omega (
+      arith,
+      progress-room (now c.before.before.before.before),
+      progress-length (now c.before.before.before.before),
+      c.well_formed.1.1.1.1.1.0,
+    )
 
 pub order-c-requires : goal.order-c-requires
 order-c-requires c =
@@ -122,10 +127,12 @@ shape_of-out-then-s-t c =
 
 pub returns-then-s-t : goal.returns-then-s-t
 returns-then-s-t c =
+    let at-now = c.before.before.before.before.before.before.before.before.before.before.before.before in
     progress-done (now c.before.before.before.before.before.before.before.before.before.before.before) c.here.ensures c.put.ensures
-    (walked-over (now c.before.before.before.before.before.before.before.before.before.before.before).walked (result-is w64 c.order-c.type_inv c.order-c.ensures) _ _
+    (walked-over (now c.before.before.before.before.before.before.before.before.before.before.before).walked
+    (result-is w64 c.order-c.type_inv c.order-c.ensures) _ _
     c.next-s.ensures.0 c.next-t.ensures.0 c.next-s.ensures.1 c.next-t.ensures.1
-    (c.if-s-t.true ∙ all c.before.before.before.before.before.before.before.before.before.before.before.before.before.before.before.before.before))
+    (c.if-s-t.true ∙ all at-now.before.before.before.before.before))
     _ c.arrived.ensures.0 c.arrived.ensures.1
 
 pub shape_of-out-then-count-k : goal.shape_of-out-then-count-k
@@ -135,9 +142,12 @@ shape_of-out-then-count-k c =
 pub returns-then-count-k : goal.returns-then-count-k
 returns-then-count-k c =
     progress-done (now c.before.before.before.before.before.before.before.before.before.before.before.before) c.here.ensures c.put.ensures
-    (walked-spent (now c.before.before.before.before.before.before.before.before.before.before.before.before).walked (result-is w64 c.order-c.type_inv c.order-c.ensures) _ _
+    (walked-spent (now c.before.before.before.before.before.before.before.before.before.before.before.before).walked
+    (result-is w64 c.order-c.type_inv c.order-c.ensures) _ _
     c.next-s.ensures.0 c.next-t.ensures.0 c.next-s.ensures.1 c.next-t.ensures.1
-    (λ e. c.if-s-t.false (e ∙ sym (all c.before.before.before.before.before.before.before.before.before.before.before.before.before.before.before.before.before.before))) c.if-count-k.true)
+    (λ e. c.if-s-t.false (e ∙ sym
+    (all c.before.before.before.before.before.before.before.before.before.before.before.before.before.before.before.before.before.before)))
+    c.if-count-k.true)
     _ c.arrived-then-count-k.ensures.0 c.arrived-then-count-k.ensures.1
 
 pub loop-s-smaller : goal.loop-s-smaller
@@ -150,4 +160,6 @@ loop-s-preserved c = λ old p.
     progress-more inv c.here.ensures c.put.ensures
     (walked_more inv.walked (result-is w64 c.order-c.type_inv c.order-c.ensures) _ _
     c.next-s.ensures.0 c.next-t.ensures.0 c.next-s.ensures.1 c.next-t.ensures.1
-    (λ e. c.if-s-t.false (e ∙ sym (all c.before.before.before.before.before.before.before.before.before.before.before.before.before.before.before.before.before))) c.if-count-k.false)
+    (λ e. c.if-s-t.false (e ∙ sym
+    (all c.before.before.before.before.before.before.before.before.before.before.before.before.before.before.before.before.before)))
+    c.if-count-k.false)

@@ -21,7 +21,8 @@ use Rattle.sums.proofs.walk.walk_on.Given as goal
 
 abbrev pub invariant-loop-s : goal.invariant-loop-s
 invariant-loop-s l =
-    (old : List ℤ) → Progress l.a l.b old (state l.i l.j false) l.k l.initial.count l.initial.s l.initial.t l.initial.out → Progress l.a l.b old (state l.i l.j false) l.k l.count l.s l.t l.out
+    (old : List ℤ) → Progress l.a l.b old (state l.i l.j false) l.k l.initial.count l.initial.s l.initial.t l.initial.out → Progress l.a l.b
+    old (state l.i l.j false) l.k l.count l.s l.t l.out
 
 abbrev pub decreases-loop-s : goal.decreases-loop-s
 decreases-loop-s l = length (next_corners l.a l.b (state l.i l.j false) l.k) - l.count

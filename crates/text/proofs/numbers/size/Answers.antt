@@ -19,7 +19,8 @@ pub overflow_add-result : goal.overflow_add-result
 overflow_add-result c = let b = below c in rw b.value b.more-fits
 
 pub overflow_cast-result-else-number-lt0 : goal.overflow_cast-result-else-number-lt0
-overflow_cast-result-else-number-lt0 c = let f = c.ranges.number in rw (to_z-of_z {w = w64} f) (from_zero _ tt f (rw (to_z-of_z {w = w64} f) at c.if-number-lt0.false))
+overflow_cast-result-else-number-lt0 c = let f = c.ranges.number in rw (to_z-of_z {w = w64} f)
+    (from_zero _ tt f (rw (to_z-of_z {w = w64} f) at c.if-number-lt0.false))
 
 pub returns-then-number-lt0 : goal.returns-then-number-lt0
 returns-then-number-lt0 c = let b = below c in rw b.value b.more-is

@@ -18,7 +18,8 @@ readback c =
     ap₂ point (result-is w64 c.struct_told-1.given.1.1.1.1.0.1 refl) (result-is w64 c.struct_told-1.given.1.1.1.1.1.0.1 refl)
 
 pub returns-then-self-gt0 : goal.returns-then-self-gt0
-returns-then-self-gt0 c = sym (precedes-below origin _ (lt_z-true c.if-self-gt0.true)) ∙ ap up (readback (goal.at.returns-then-self-gt0 c).After-struct_told-1)
+returns-then-self-gt0 c = sym (precedes-below origin _ (lt_z-true c.if-self-gt0.true)) ∙ ap up
+    (readback (goal.at.returns-then-self-gt0 c).After-struct_told-1)
 
 pub returns-then-self-lt0 : goal.returns-then-self-lt0
 returns-then-self-lt0 c =
@@ -26,4 +27,5 @@ returns-then-self-lt0 c =
 
 pub returns : goal.returns
 returns c =
-    sym (precedes-level origin _ (lt_z-false c.if-self-lt0.false) (lt_z-false c.if-self-gt0.false)) ∙ ap up (readback (goal.at.returns c).After-struct_told-1)
+    sym (precedes-level origin _ (lt_z-false c.if-self-lt0.false) (lt_z-false c.if-self-gt0.false)) ∙ ap up
+    (readback (goal.at.returns c).After-struct_told-1)

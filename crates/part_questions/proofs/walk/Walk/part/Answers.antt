@@ -30,7 +30,8 @@ told c e = sym c.is_place.ensures ∙ e
 
 pub returns-in-No : goal.returns-in-No
 returns-in-No c =
-    shapes-refused (ask_part (one (goal.at.returns-in-No c).Start) (other (goal.at.returns-in-No c).Start) (state_of c.args.self) c.args.k c.args.out.now)
+    shapes-refused (ask_part (one (goal.at.returns-in-No c).Start) (other (goal.at.returns-in-No c).Start) (state_of c.args.self) c.args.k
+    c.args.out.now)
     (c.admit_pair.ensures.no _ c.in-No.is)
 
 pub is_place-requires : goal.is_place-requires
@@ -38,7 +39,8 @@ is_place-requires c = let both = shapes c in (both.first-valid, both.second-vali
 
 pub returns-then-not-is_place : goal.returns-then-not-is_place
 returns-then-not-is_place c =
-    part-off-place (one (goal.at.returns-then-not-is_place c).Start) (other (goal.at.returns-then-not-is_place c).Start) (state_of c.args.self) c.args.k c.args.out.now
+    part-off-place (one (goal.at.returns-then-not-is_place c).Start) (other (goal.at.returns-then-not-is_place c).Start)
+    (state_of c.args.self) c.args.k c.args.out.now
     (shapes (goal.at.returns-then-not-is_place c).In_default) (told c.before (c.if-not-is_place.true))
 
 pub survey-requires : goal.survey-requires
@@ -46,7 +48,8 @@ survey-requires c = let both = shapes (goal.at.survey-requires c).In_default in 
 
 pub returns-in-No-survey : goal.returns-in-No-survey
 returns-in-No-survey c =
-    part-surveyed (one (goal.at.returns-in-No-survey c).Start) (other (goal.at.returns-in-No-survey c).Start) (state_of c.args.self) c.args.k c.args.out.now
+    part-surveyed (one (goal.at.returns-in-No-survey c).Start) (other (goal.at.returns-in-No-survey c).Start) (state_of c.args.self)
+    c.args.k c.args.out.now
     (shapes (goal.at.returns-in-No-survey c).In_default) (told (goal.at.returns-in-No-survey c).After-is_place (c.if-not-is_place.false))
     (c.survey.ensures.no _ c.in-No-survey.is)
 

@@ -64,7 +64,8 @@ has_room-requires c = (standing c.before, omega (arith, c.if-k-eq0.false))
 
 pub returns-then-not-has_room : goal.returns-then-not-has_room
 returns-then-not-has_room c =
-    part-little-room (one c.before.before.before.before) (other c.before.before.before.before) (state_of c.args.self) c.args.k c.args.out.now
+    part-little-room (one c.before.before.before.before) (other c.before.before.before.before) (state_of c.args.self) c.args.k
+    c.args.out.now
     c.requires.0 c.requires.1 c.requires.2 (ap length (due c.before.before.before))
     (c.has_room.ensures.1 (c.if-not-has_room.true))
 
@@ -87,6 +88,7 @@ returns c =
     let went = part-advanced args.a.now args.b.now both.first-valid both.second-valid (state_of self) args.k c.requires.1
     (subst (λ (o : Bool). Advanced args.a.now args.b.now (state self.first self.second o) args.k
     c.walk_on-went.result) (sym c.if-self.false) c.walk_on-went.ensures.0) in
-    part-done (one c.before.before.before.before.before.before.before) (other c.before.before.before.before.before.before.before) (state_of self) args.k args.out.now both c.requires.1 c.requires.2 went.0
+    part-done (one c.before.before.before.before.before.before.before) (other c.before.before.before.before.before.before.before)
+    (state_of self) args.k args.out.now both c.requires.1 c.requires.2 went.0
     (omega (arith, went.0, ap length due-is, room c.before.before.before)) went.1
     (c.walk_on-went.ensures.1 ∙ ap (λ (ps : List Point). overwritten (numbers ps) args.out.now) due-is)
