@@ -1,5 +1,5 @@
 //! Which answers of an old map stay for a new one without asking again, by what is proved of `excess`
-//! (`crates/excess/specs/Meaning.antt`):
+//! (`crates/excess/proofs/Meaning.antt`):
 //!
 //! - Shapes that were w mm apart are at least w - e - f apart after changes by e and f mm (`settled-with-both-moved`,
 //!   `settled-answer-with-both-moved`), and a shape inside the old one stays apart (`inside-stays-apart`).

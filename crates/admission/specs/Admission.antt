@@ -6,7 +6,6 @@ use Rattle.std.specs.Prelude.{◌≡◌, List}
 use Rattle.plane.specs.Reply.{Reply, refused, Row, First}
 use Rattle.admission.specs.declared.answer.Refusal.{Refusal}
 use Rattle.admission.specs.declared.Admission.{Admission}
-use Rattle.admission.specs.declared.Admission.TheVariants as Admission
 use Rattle.admission.specs.Answer.{of_refusal}
 
 pub record Refuses (rows : List Row) (r : Reply) : Type 0 where

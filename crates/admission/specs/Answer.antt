@@ -6,9 +6,7 @@
 use Rattle.std.specs.Prelude.{[], ◌∷◌, pos}
 use Rattle.plane.specs.Reply.{Reply, answered, refused}
 use Rattle.admission.specs.declared.answer.Refusal.{Refusal}
-use Rattle.admission.specs.declared.answer.Refusal.TheVariants as Refusal
 use Rattle.admission.specs.declared.answer.Answer.{Answer}
-use Rattle.admission.specs.declared.answer.Answer.TheVariants as Answer
 
 abbrev pub of_refusal : Refusal → Reply
 of_refusal (Refusal.Count shape) = refused 1 (shape ∷ [])

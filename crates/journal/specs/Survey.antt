@@ -17,12 +17,9 @@ use Rattle.journal.specs.Reading.{damaged, bad_place, held, latest}
 use Rattle.journal.specs.Current.{current}
 use Rattle.journal.specs.Adding.{end}
 use Rattle.journal.specs.declared.survey.Surveyed.{Surveyed}
-use Rattle.journal.specs.declared.survey.Surveyed.TheVariants as Surveyed
 use Rattle.journal.specs.declared.head.Head.{Head}
 use Rattle.journal.specs.declared.current.Listed.{Listed}
-use Rattle.journal.specs.declared.current.Listed.TheVariants as Listed
 use Rattle.journal.specs.declared.latest.Found.{Found}
-use Rattle.journal.specs.declared.latest.Found.TheVariants as Found
 
 unfoldable pub surveyed : List ℕ → Surveyed
 surveyed b = cond (damaged (records b)) (Surveyed.Bad (bad_place (records b))) (Surveyed.Ends (end b))

@@ -25,7 +25,6 @@ use Rattle.plane.specs.Forms.{edges}
 use Rattle.plane.specs.Cycle.{round, corner_round}
 use Rattle.plane.proofs.theory.sum.Positions.{edge_at, edges-at-most, edge-turn, round-inner, round-within}
 use Rattle.plane.proofs.theory.forms.Vector.{value-nonneg, cross-origin}
-use Rattle.polygon.specs.Point.{at}
 use Rattle.calipers.specs.declared.side.Side.{Side}
 use Rattle.calipers.specs.Side.{corner_of, next_of, Carried}
 use Rattle.measure.specs.declared.narrowest.Across.{Across}

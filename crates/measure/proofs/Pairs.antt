@@ -21,7 +21,7 @@ use Rattle.plane.specs.Forms.{edges}
 use Rattle.plane.specs.Cycle.{corner_round}
 use Rattle.plane.proofs.theory.forms.Squared.{squared-nonneg, squared-sym}
 use Rattle.plane.proofs.theory.sum.Positions.{round-inner, edges-at-most}
-use Rattle.polygon.specs.Point.{at, Small}
+use Rattle.polygon.specs.Point.{Small}
 use Rattle.calipers.specs.Side.{corner_of}
 use Rattle.calipers.specs.declared.side.Side.{Side}
 use Rattle.measure.specs.declared.Length.{Length}

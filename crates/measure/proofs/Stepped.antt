@@ -20,7 +20,7 @@ use Rattle.plane.specs.Refusal.{Valid}
 use Rattle.plane.specs.Turn.{cross}
 use Rattle.plane.specs.Forms.{edges}
 use Rattle.plane.proofs.theory.sum.Positions.{edges-at-most, edges_some}
-use Rattle.polygon.specs.Point.{at, Small}
+use Rattle.polygon.specs.Point.{Small}
 use Rattle.calipers.specs.declared.side.Side.{Side}
 use Rattle.calipers.specs.Side.{corner_of, next_of, onward, Carried}
 use Rattle.calipers.specs.theory.Sides.{corner-fits, edge-fits}

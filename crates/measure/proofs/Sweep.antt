@@ -12,12 +12,11 @@ use borrow.Author.Tests.{ltb-true, ltb-false}
 use lib.Dec.{ltb}
 use lib.IntN.{ℤ}
 use lib.ListN.{length}
-use Rattle.plane.specs.Point.{Point, points, corner}
+use Rattle.plane.specs.Point.{Point, points}
 use Rattle.plane.specs.Turn.{cross}
 use Rattle.plane.specs.Shape.{IsShape}
 use Rattle.plane.specs.Forms.{edges}
 use Rattle.plane.proofs.theory.sum.Positions.{edges_some}
-use Rattle.polygon.specs.Point.{at}
 use Rattle.calipers.specs.declared.side.Side.{Side}
 use Rattle.calipers.specs.Side.{next_of, onward, Carried}
 use Rattle.calipers.specs.theory.Sides.{onward-inner}

@@ -20,7 +20,7 @@ use Rattle.plane.specs.Turn.{cross}
 use Rattle.plane.specs.Direction.{value}
 use Rattle.plane.specs.Cycle.{round}
 use Rattle.plane.specs.Measure.{squared, edge_turn, height}
-use Rattle.polygon.specs.Point.{at, Small}
+use Rattle.polygon.specs.Point.{Small}
 use Rattle.calipers.specs.declared.side.Side.{Side}
 use Rattle.calipers.specs.Side.{corner_of, next_of, Carried}
 use Rattle.measure.specs.Half.{Chains, Antipodal}

@@ -16,8 +16,8 @@ use Rattle.plane.specs.Limits.{max_part}
 use Rattle.plane.specs.Point.{Point, points, numbers, corner, opposite, ◌∈◌, ◌⊆◌}
 use Rattle.plane.specs.Turn.{turn, Left}
 use Rattle.plane.specs.Shape.{next, breaks, IsShape}
-use Rattle.plane.specs.Reply.{Reply, answered, refused, Row, NoneApply, First}
-use Rattle.plane.specs.Refusal.{too_many, some_outside, equal_pair, left_broken, breaking_edge, breaking_corner, shape_rows, InRange, Valid}
+use Rattle.plane.specs.Reply.{answered, refused, Row, NoneApply, First}
+use Rattle.plane.specs.Refusal.{too_many, some_outside, equal_pair, left_broken, breaking_edge, breaking_corner, InRange, Valid}
 use Rattle.plane.specs.Direction.{value, support, greater, furthest, SameWay}
 use Rattle.plane.specs.Corner.{Corner, shape_of, sums, mirrored}
 use Rattle.plane.specs.Forms.{Ordered, Sorted, NonZero, edges}

@@ -22,7 +22,6 @@ use Rattle.plane.specs.Cycle.{corner_round}
 use Rattle.plane.specs.Refusal.{Valid}
 use Rattle.plane.specs.Separation.{inside}
 use Rattle.plane.proofs.theory.sum.Positions.{edges_some, edges-at-most}
-use Rattle.polygon.specs.Point.{at}
 use Rattle.calipers.specs.declared.side.Side.{Side}
 use Rattle.calipers.specs.Places.{takes, passed}
 use Rattle.calipers.specs.Side.{corner_of, next_of, onward, Carried, walk_of}

@@ -1,5 +1,4 @@
 -- `admit` meets its contract: a list that passes is valid, and another is blamed.
-use borrow.Author.Rules.{rules}
 use Rattle.admission.specs.theory.Judged.{passes}
 use Rattle.admission.proofs.admit.Goals as goal
 

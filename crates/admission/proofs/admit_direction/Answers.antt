@@ -4,7 +4,6 @@ use mathlib.Core.Bool.{false}
 use mir.Syntax.{w32}
 use mir.Val.{to_z, of_z}
 use mir.Facts.{to_z-of_z}
-use borrow.Author.Rules.{rules}
 use Rattle.plane.specs.Point.{point}
 use Rattle.plane.specs.Reply.{here, later}
 use Rattle.plane.specs.Furthest.{bad_direction, common_divisor}

@@ -1,6 +1,4 @@
 -- `admit_pair` meets its contract: two lists that pass are valid, and their floors are compared; others are blamed.
-use borrow.Author.Rules.{rules}
-use borrow.Author.Tests.{not-false}
 use Rattle.plane.specs.Floor.{on}
 use Rattle.admission.specs.theory.Door.{then-floors}
 use Rattle.admission.proofs.admit_pair.Goals as goal

@@ -1,7 +1,6 @@
 -- `admit_points` meets its contract: each test is a row of the table, and the rows before it did not apply.
 use mathlib.Core.Path.{◌≡◌, sym, ◌∙◌}
 use mathlib.Core.Bool.{false}
-use borrow.Author.Rules.{rules}
 use Rattle.plane.specs.Point.{points}
 use Rattle.plane.specs.Reply.{here, later}
 use Rattle.plane.specs.Refusal.{bad_count}

@@ -1,7 +1,6 @@
 -- `admit_three` meets its contract: the lists are judged in order, and then their floors.
 use mathlib.Core.Path.{◌≡◌}
 use mathlib.Core.List.{[], ◌∷◌, ◌++◌}
-use borrow.Author.Rules.{rules}
 use Rattle.plane.specs.Refusal.{shape_rows, Valid}
 use Rattle.plane.specs.Floor.{Floored, on, floor_row}
 use Rattle.plane.proofs.theory.refusals.Accept.{valid→accepted}

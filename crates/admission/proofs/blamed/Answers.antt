@@ -3,7 +3,6 @@ use mathlib.Core.Path.{◌≡◌, sym, ◌∙◌, ap₂}
 use mathlib.Core.Bool.{false}
 use mathlib.Core.List.{[], ◌∷◌}
 use Prim.Native.Nat.{ℕ}
-use borrow.Author.Rules.{rules}
 use Rattle.plane.specs.Point.{points}
 use Rattle.plane.specs.Reply.{refused, here, later}
 use Rattle.plane.specs.Refusal.{bad_count, too_many, some_outside, rule_broken}

@@ -1,6 +1,5 @@
 -- `blamed_pair` meets its contract: the first list's refusal is given before the second's, and that before 13.
 use mathlib.Core.List.{[], ◌∷◌, ◌++◌}
-use borrow.Author.Rules.{rules}
 use Rattle.plane.specs.Reply.{NoneApply}
 use Rattle.plane.specs.Refusal.{shape_rows, Valid}
 use Rattle.plane.specs.Floor.{Floored, on, floor_row}

@@ -3,7 +3,6 @@
 use Rattle.std.specs.Prelude.{◌≡◌, refl, cond, List, ℕ, eqb, get_or}
 use Rattle.plane.specs.Reply.{Reply, answered, refused}
 use Rattle.admission.specs.declared.answer.Refusal.{Refusal}
-use Rattle.admission.specs.declared.answer.Refusal.TheVariants as Refusal
 use Rattle.admission.specs.Answer.{of_refusal}
 
 -- the numbers 1 to 5, and those that carry nothing

@@ -2,7 +2,6 @@
 use mathlib.Core.Path.{◌∙◌, ap₂}
 use Prim.Native.Nat.{◌+◌}
 use native.Mathlib.Omega.{arith}
-use borrow.Author.Rules.{rules}
 use Rattle.plane.specs.Point.{Point, points, ◌⊖◌}
 use Rattle.plane.proofs.theory.lists.Flat.{points-length}
 use Rattle.polygon.specs.theory.Small.{small-corner, small-edge, small-wide}

@@ -1,7 +1,6 @@
 -- `goes_on` meets its contract: the rise decides the half, then the turn is asked.
 use mathlib.Core.Path.{◌≡◌, sym, ◌∙◌, ap}
 use mathlib.Core.Bool.{beq}
-use borrow.Author.Rules.{rules}
 use borrow.Author.Tests.{not-true, not-false}
 use lib.IntN.{ℤ, pos}
 use lib.Signed.{le_z}

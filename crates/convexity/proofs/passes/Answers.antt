@@ -1,7 +1,6 @@
 -- `passes` meets its contract: each test is a row of judging, and the last stands for two.
 use mathlib.Core.Path.{◌≡◌, sym, ◌∙◌}
 use mathlib.Core.Bool.{false, false≢true}
-use borrow.Author.Rules.{rules}
 use Rattle.plane.specs.Point.{points}
 use Rattle.plane.specs.Refusal.{bad_count, too_many, some_outside}
 use Rattle.plane.proofs.theory.refusals.Accept.{near→in_range, counted, shape→valid, valid→accepted}

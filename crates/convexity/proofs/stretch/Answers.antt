@@ -1,17 +1,14 @@
 -- `stretch` meets its contract. The invariant: the edges go on up to edge k, which e is; the measure is what is left.
 use mathlib.Core.Path.{◌≡◌, sym, ◌∙◌, ap₂}
-use Prim.Native.Nat.{◌+◌, ◌-◌, ◌^◌}
+use Prim.Native.Nat.{◌+◌}
 use native.Mathlib.Omega.{arith}
-use borrow.Author.Rules.{rules}
-use borrow.Author.Tests.{not-true, not-false}
 use lib.ListN.{length}
 use Rattle.plane.specs.Point.{points, corner}
 use Rattle.plane.specs.Forms.{edges}
 use Rattle.plane.proofs.theory.lists.Flat.{points-length}
 use Rattle.plane.proofs.theory.sum.Positions.{edges_some}
-use Rattle.polygon.specs.Point.{Small}
-use Rattle.convexity.specs.Stretch.{vector, goes_on}
-use Rattle.convexity.specs.theory.Stretches.{Along, along-start, along-more, along-end}
+use Rattle.convexity.specs.Stretch.{goes_on}
+use Rattle.convexity.specs.theory.Stretches.{along-start, along-more, along-end}
 use Rattle.convexity.proofs.stretch.Goals as goal
 use Rattle.convexity.proofs.stretch.Goals.{After-edge_at-e, After-goes_on}
 

@@ -1,16 +1,10 @@
-use mathlib.Core.Path.{◌≡◌, sym, ◌∙◌, ap₂}
-use Prim.Native.Nat.{◌+◌, ◌-◌, ◌^◌}
-use native.Mathlib.Omega.{arith}
-use borrow.Author.Rules.{rules}
-use borrow.Author.Tests.{not-true, not-false}
-use lib.ListN.{length}
+use mathlib.Core.Path.{◌≡◌}
+use Prim.Native.Nat.{◌-◌, ◌^◌}
 use Rattle.plane.specs.Point.{points, corner}
 use Rattle.plane.specs.Forms.{edges}
-use Rattle.plane.proofs.theory.lists.Flat.{points-length}
-use Rattle.plane.proofs.theory.sum.Positions.{edges_some}
 use Rattle.polygon.specs.Point.{Small}
-use Rattle.convexity.specs.Stretch.{vector, goes_on}
-use Rattle.convexity.specs.theory.Stretches.{Along, along-start, along-more, along-end}
+use Rattle.convexity.specs.Stretch.{vector}
+use Rattle.convexity.specs.theory.Stretches.{Along}
 use Rattle.convexity.proofs.stretch.Given as goal
 
 abbrev pub invariant-loop-k : goal.invariant-loop-k

@@ -2,7 +2,6 @@
 use mir.Syntax.{w32}
 use mathlib.Core.Path.{◌∙◌, ap, ap₂}
 use Prim.Native.Nat.{ℕ}
-use borrow.Author.Rules.{rules}
 use lib.Dec.{ltb}
 use lib.IntN.{nat_abs}
 use mir.Facts.{to_z-of_z}

@@ -1,7 +1,6 @@
 -- `first_furthest` meets its contract. The invariant: of the values before i the greatest, at its smallest position; the measure is what
 -- is left.
 use mathlib.Core.Path.{◌≡◌, sym, ◌∙◌, ap}
-use Prim.Native.Nat.{◌-◌, ◌≤◌}
 use native.Mathlib.Omega.{arith}
 use lib.ListN.{length}
 use lib.Signed.{lt_z}
@@ -9,10 +8,7 @@ use mir.Syntax.{w64}
 use mir.Val.{to_z}
 use Rattle.integer.specs.Machine.{result-is}
 use Rattle.integer.specs.Order.{lt_z-true, lt_z-false}
-use Rattle.plane.specs.Point.{points, corner}
-use Rattle.plane.specs.Direction.{value as direction_value}
-use Rattle.polygon.specs.Point.{at}
-use Rattle.plane.proofs.theory.face.FirstFurthest.{Greatest}
+use Rattle.plane.specs.Point.{points}
 use Rattle.direction.specs.theory.Furthest.{greatest-start, greatest-keep, greatest-rise, greatest-furthest}
 use Rattle.direction.proofs.first_furthest.Goals as goal
 use Rattle.direction.proofs.first_furthest.Goals.{then-value-next, else-value-next}

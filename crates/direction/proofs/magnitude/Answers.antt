@@ -1,5 +1,4 @@
 -- `magnitude` meets its contract: below 0, -1 less the number is one less than its size, and fits.
-use borrow.Author.Rules.{rules}
 use mir.Syntax.{w32}
 use mir.Facts.{to_z-of_z}
 use Rattle.integer.specs.Size.{Below, below-zero, from_zero}

@@ -1,6 +1,5 @@
 -- `reach` meets its contract. The invariant: the greatest of the values before i, at some position; the measure is what is left.
 use mathlib.Core.Path.{◌≡◌, refl, sym, ◌∙◌, ap}
-use Prim.Native.Nat.{ℕ, ◌-◌, ◌≤◌}
 use native.Mathlib.Omega.{arith}
 use lib.ListN.{length}
 use lib.Signed.{lt_z}
@@ -8,10 +7,7 @@ use mir.Syntax.{w64}
 use mir.Val.{to_z}
 use Rattle.integer.specs.Machine.{result-is}
 use Rattle.integer.specs.Order.{lt_z-true, lt_z-false}
-use Rattle.plane.specs.Point.{points, corner}
-use Rattle.plane.specs.Direction.{value as direction_value}
-use Rattle.polygon.specs.Point.{at}
-use Rattle.plane.proofs.theory.face.FirstFurthest.{Greatest}
+use Rattle.plane.specs.Point.{points}
 use Rattle.direction.specs.theory.Furthest.{greatest-start, greatest-keep, greatest-rise, greatest-support}
 use Rattle.direction.proofs.reach.Goals as goal
 use Rattle.direction.proofs.reach.Goals.{then-greatest-next, else-greatest-next}

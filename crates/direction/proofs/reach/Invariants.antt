@@ -1,18 +1,8 @@
-use mathlib.Core.Path.{◌≡◌, refl, sym, ◌∙◌, ap}
-use mathlib.Core.Logic.{⊎_elim}
 use Prim.Native.Nat.{ℕ, ◌-◌, ◌≤◌}
-use native.Mathlib.Omega.{arith}
-use lib.ListN.{length}
-use lib.Signed.{lt_z}
-use mir.Syntax.{w64}
-use mir.Val.{to_z}
-use Rattle.integer.specs.Machine.{result-is}
-use Rattle.integer.specs.Order.{lt_z-true, lt_z-false}
 use Rattle.plane.specs.Point.{points, corner}
 use Rattle.plane.specs.Direction.{value as direction_value}
 use Rattle.polygon.specs.Point.{at}
 use Rattle.plane.proofs.theory.face.FirstFurthest.{Greatest}
-use Rattle.direction.specs.theory.Furthest.{greatest-start, greatest-keep, greatest-rise, greatest-support}
 use Rattle.direction.proofs.reach.Given as goal
 
 abbrev pub invariant-loop-i : goal.invariant-loop-i

@@ -1,6 +1,5 @@
 -- `reaches` meets its contract.
 use mathlib.Core.Path.{ap₂}
-use borrow.Author.Rules.{rules}
 use lib.Signed.{le_z}
 use mir.Syntax.{w64}
 use mir.Facts.{to_z-of_z}

@@ -1,8 +1,6 @@
 -- `odd_divisor` meets its contract. The invariant: both numbers are odd, and their divisor is the one sought; the measure is their sum.
-use Prim.Native.Nat.{◌+◌}
 use native.Mathlib.Omega.{arith}
-use borrow.Author.Rules.{rules}
-use Rattle.divisor.specs.Halving.{Halved, halved-swap, shift_fits, next-less, halved-next, halved-end}
+use Rattle.divisor.specs.Halving.{halved-swap, shift_fits, next-less, halved-next, halved-end}
 use Rattle.divisor.proofs.odd_divisor.Goals as goal
 
 pub loop-x-init : goal.loop-x-init

@@ -1,7 +1,5 @@
 use Prim.Native.Nat.{◌+◌}
-use native.Mathlib.Omega.{arith}
-use borrow.Author.Rules.{rules}
-use Rattle.divisor.specs.Halving.{Halved, halved-swap, shift_fits, next-less, halved-next, halved-end}
+use Rattle.divisor.specs.Halving.{Halved}
 use Rattle.divisor.proofs.odd_divisor.Given as goal
 
 abbrev pub invariant-loop-x : goal.invariant-loop-x

@@ -1,13 +1,11 @@
 -- `decode` meets its contract. The invariant: i numbers are read; the measure is what is left.
 use mir.Syntax.{w32}
 use mathlib.Core.Path.{◌≡◌, sym, ◌∙◌}
-use Prim.Native.Nat.{◌-◌, ◌≤◌}
 use native.Mathlib.Omega.{arith}
 use borrow.Author.Rules.{sfits_of}
 use lib.ListN.{length}
 use mir.Facts.{to_z-of_z}
-use Rattle.plane.proofs.theory.lists.Filled.{Filled, filled-start, filled_put, filled-length, filled-done}
-use Rattle.endian.specs.Bytes.{words_at}
+use Rattle.plane.proofs.theory.lists.Filled.{filled-start, filled_put, filled-length, filled-done}
 use Rattle.endian.specs.theory.Bytes.{words_at-length, words_at-at}
 use Rattle.endian.proofs.decode.Goals as goal
 use Rattle.endian.proofs.decode.Goals.{At-loop-i}

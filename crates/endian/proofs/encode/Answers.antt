@@ -1,6 +1,6 @@
 -- `encode` meets its contract. The invariant: i numbers are written; the measure is what is left.
 use mir.Syntax.{w32}
-use Prim.Native.Nat.{ℕ, ◌+◌, ◌-◌, ◌≤◌}
+use Prim.Native.Nat.{ℕ, ◌+◌}
 use native.Mathlib.Omega.{arith}
 use mathlib.Core.Path.{◌≡◌, sym, subst}
 use mathlib.Core.List.{List}

@@ -8,7 +8,6 @@ use mir.Syntax.{w32}
 use mir.Val.{of_z}
 use mir.Facts.{to_z-of_z}
 use Rattle.endian.specs.theory.Coded.{word-stored}
-use borrow.Author.Rules.{rules}
 use Rattle.endian.proofs.put.Goals as goal
 use Rattle.endian.proofs.put.Goals.{After-bits-n}
 

@@ -2,7 +2,6 @@
 use mathlib.Core.Path.{◌∙◌, ap, subst}
 use mathlib.Core.List.{List}
 use native.Mathlib.Omega.{arith}
-use borrow.Author.Rules.{rules}
 use lib.ListN.{take}
 use lib.Seq.{length-take-le}
 use Rattle.plane.specs.Point.{Point, points}

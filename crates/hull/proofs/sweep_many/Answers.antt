@@ -2,7 +2,6 @@
 use mathlib.Core.Path.{◌∙◌, ap, subst}
 use mathlib.Core.List.{List}
 use native.Mathlib.Omega.{arith}
-use borrow.Author.Rules.{rules}
 use lib.ListN.{take}
 use lib.Seq.{length-take-le}
 use Rattle.plane.specs.Limits.{max_points}
@@ -10,7 +9,7 @@ use Rattle.plane.specs.Point.{Point, points}
 use Rattle.plane.proofs.theory.lists.Flat.{points-length}
 use Rattle.plane.specs.Corner.{ascending, outline, shape_of}
 use Rattle.polygon.specs.Front.{Front}
-use Rattle.sorting.specs.Buffer.{Holds, SmallTo}
+use Rattle.sorting.specs.Buffer.{Holds}
 use Rattle.sorting.specs.Interior.{Reduced}
 use Rattle.sorting.specs.theory.Least.{ascending-length}
 use Rattle.sorting.specs.theory.Held.{held-count, held-some, held-front, held-part, part_small}

@@ -5,7 +5,7 @@
 --     Half half A low high        the corners from low to high on the way round are A's chain of that half: no other corner is further in
 --                                 a direction to that side
 --     right-half, left-half       the chains up to the peak and down from it are that
-use Rattle.std.specs.Prelude.{◌≡◌, refl, Bool, true, false, List, [], ◌∷◌, ℕ, suc, ◌+◌, ◌-◌, ◌^◌, ◌≤◌, ◌<◌, ℤ, pos, length, ◌≤ℤ◌}
+use Rattle.std.specs.Prelude.{◌≡◌, refl, Bool, true, false, List, [], ◌∷◌, ℕ, suc, ◌+◌, ◌^◌, ◌≤◌, ◌<◌, ℤ, pos, length, ◌≤ℤ◌}
 use Rattle.std.proofs.Common.{sym, ◌∙◌, ap, subst, true≢false, inl, inr, arith, eq-eqb, ne_eqb, get_or-append-add}
 use Rattle.std.proofs.Math.Decide.{ℕ_discrete, dec_lt}
 use Rattle.std.proofs.Math.ListN.{get_or-append}
@@ -14,7 +14,6 @@ use Rattle.plane.specs.Point.{Point, origin, points, corner, ◌∈◌}
 use Rattle.plane.specs.Turn.{turn, Left, turn-cycle}
 use Rattle.plane.specs.Direction.{value}
 use Rattle.plane.specs.Shape.{precedes, IsShape}
-use Rattle.plane.specs.Forms.{Precedes}
 use Rattle.plane.specs.Refusal.{InRange}
 use Rattle.plane.proofs.theory.lists.Members.{member-position, position-member}
 use Rattle.plane.proofs.theory.hull.Halves.{Sideways, upward, downward, value-between}

@@ -14,10 +14,9 @@ use mathlib.Core.List.{List, [], ◌∷◌, ◌++◌}
 use Rattle.std.proofs.lemmas.Bool.{eqb-false}
 use Rattle.std.proofs.Math.Dec.{eqb}
 use Rattle.std.proofs.Math.IntN.{pos}
-use Rattle.plane.specs.Reply.{Reply, answered, refused, row, first_row}
-use Rattle.plane.specs.Floor.{Floored, corners}
-use Rattle.plane.specs.Output.{no_room, unless_refused, overwritten}
-use Rattle.plane.specs.Point.{numbers}
+use Rattle.plane.specs.Reply.{answered, row, first_row}
+use Rattle.plane.specs.Floor.{corners}
+use Rattle.plane.specs.Output.{no_room}
 use Rattle.plane.specs.Question.{reply, output}
 use Rattle.journal.specs.Format.{records, recorded, name, floor, content}
 use Rattle.journal.specs.Reading.{damaged, bad_place, held, nothing, latest, ask_read}

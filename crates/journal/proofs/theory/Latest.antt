@@ -11,7 +11,6 @@ use Rattle.journal.specs.Reading.{damaged, held, nothing, latest}
 use Rattle.journal.specs.Survey.{record_at, next_at, Reached, Stated, newer, Latest}
 use Rattle.journal.specs.declared.head.Head.{Head}
 use Rattle.journal.specs.declared.latest.Found.{Found}
-use Rattle.journal.specs.declared.latest.Found.TheVariants as Found
 use Rattle.journal.proofs.theory.Records.{records-none}
 use Rattle.journal.proofs.theory.Stepping.{records-step, reached-start, reached-next}
 

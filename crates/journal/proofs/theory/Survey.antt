@@ -22,7 +22,6 @@ use Rattle.journal.specs.Adding.{end}
 use Rattle.journal.specs.Facts.{Whole}
 use Rattle.journal.specs.Survey.{surveyed}
 use Rattle.journal.specs.declared.survey.Surveyed.{Surveyed}
-use Rattle.journal.specs.declared.survey.Surveyed.TheVariants as Surveyed
 use Rattle.journal.proofs.theory.Kind.{fixed-least}
 use Rattle.journal.proofs.theory.Records.{whole→facts, records-none, records-front, end_none, end-front}
 use Rattle.journal.proofs.theory.Read.{size-front, kind-front, content-front}

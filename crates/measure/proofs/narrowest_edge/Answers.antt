@@ -1,5 +1,4 @@
 -- `narrowest_edge` meets its contract.
-use borrow.Author.Rules.{rules}
 use Rattle.measure.proofs.Found.{width-opposed, some-squared, width-found}
 use Rattle.measure.proofs.narrowest_edge.Goals as goal
 

@@ -7,7 +7,7 @@ use Rattle.std.specs.Prelude.{◌≡◌, refl, Bool, true, false, List, [], ◌�
 use Rattle.std.proofs.Common.{sym, ◌∙◌, ap, arith, ltb-true, ltb-false}
 use Rattle.integer.specs.Linear.{lia, linear, ◌&◌}
 use Rattle.plane.specs.Cut.{quarter}
-use Rattle.plane.specs.Point.{Point, corner, ◌⊕◌}
+use Rattle.plane.specs.Point.{Point, corner}
 use Rattle.plane.specs.Shape.{IsShape}
 use Rattle.plane.specs.Direction.{value, support, SameWay}
 use Rattle.plane.specs.Forms.{before, edges}

@@ -5,7 +5,7 @@
 --     More P Q k                     Q holds of one edge more, which is k
 --     narrowest-one, -keep, -replace the moves of the search; `narrowest-done`: of all edges it is width_edge
 --     width-narrowest                there is one, so width_edge is it
-use Rattle.std.specs.Prelude.{◌≡◌, refl, Bool, true, false, not, List, ◌⊎◌, ℕ, zero, suc, pred, ◌*◌, ◌≤◌, ◌<◌, ltb, ℤ, pos, ◌*ℤ◌, length}
+use Rattle.std.specs.Prelude.{◌≡◌, refl, Bool, true, false, not, List, ◌⊎◌, ℕ, zero, suc, pred, ◌*◌, ◌<◌, ltb, ℤ, pos, ◌*ℤ◌, length}
 use Rattle.std.specs.Prelude.{◌≤ℤ◌, ◌<ℤ◌}
 use Rattle.std.proofs.Common.{sym, subst, inl, inr, ⊎_elim, arith, ltb-true, ltb-false}
 use Rattle.integer.specs.Order.{le_z-true, le_z-false, le-le_z, lt-le_z}

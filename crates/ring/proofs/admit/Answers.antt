@@ -1,7 +1,6 @@
 -- `admit` meets its contract: each test is a row of the table, and the rows before it did not apply.
 use mathlib.Core.Path.{◌≡◌, sym, ◌∙◌, ap}
 use mathlib.Core.Bool.{false}
-use borrow.Author.Rules.{rules}
 use lib.Dec.{ltb}
 use Rattle.plane.specs.Limits.{max_points}
 use Rattle.plane.specs.Point.{points}

@@ -3,10 +3,9 @@ use mathlib.Core.Path.{sym, ◌∙◌, ap, subst}
 use mathlib.Core.List.{List}
 use Prim.Native.Nat.{ℕ, ◌≤◌, ◌<◌}
 use native.Mathlib.Omega.{arith}
-use borrow.Author.Rules.{rules}
 use lib.ListN.{length}
 use Rattle.plane.specs.Point.{Point, points, corner}
-use Rattle.ring.specs.Round.{distinct, sensed, bends}
+use Rattle.ring.specs.Round.{sensed, bends}
 use Rattle.ring.specs.Ring.{ring_places}
 use Rattle.ring.specs.Places.{Placed, Held}
 use Rattle.ring.specs.theory.Steps.{opened-le, opened_some, least-below}

@@ -1,13 +1,7 @@
-use mathlib.Core.Path.{◌≡◌, sym, ◌∙◌, ap, subst}
-use mathlib.Core.List.{List, map}
-use Prim.Native.Nat.{ℕ, ◌+◌, ◌*◌, ◌-◌, ◌≤◌, zero-le}
-use native.Mathlib.Omega.{arith}
-use lib.IntN.{ℤ}
-use lib.ListN.{length, length-map}
-use Rattle.plane.specs.Point.{Point, points, numbers, corner}
-use Rattle.plane.proofs.theory.lists.Flat.{numbers-length}
-use Rattle.plane.proofs.theory.lists.Filled.{Filled, filled-start, filled-length, filled-corner, filled-done}
-use Rattle.ring.specs.theory.Steps.{map_at}
+use mathlib.Core.List.{map}
+use Prim.Native.Nat.{◌*◌, ◌-◌, ◌≤◌}
+use Rattle.plane.specs.Point.{points, numbers, corner}
+use Rattle.plane.proofs.theory.lists.Filled.{Filled}
 use Rattle.ring.proofs.write.Given as goal
 
 abbrev pub invariant-loop-k : goal.invariant-loop-k

@@ -1,7 +1,7 @@
 -- A ring read backwards.
 --     distinct-same        a list without repeats is kept as it is
 --     read-backwards       a ring without repeats, read backwards from its least point, at which it turns, has the same corners
-use Rattle.std.specs.Prelude.{◌≡◌, refl, Bool, true, false, not, cond, ◌+◌, ◌-◌, ◌<◌, ℤ, pos, neg_ℤ, length, take, ◌<ℤ◌}
+use Rattle.std.specs.Prelude.{◌≡◌, refl, Bool, true, false, not, cond, ◌-◌, ℤ, pos, neg_ℤ, length, take, ◌<ℤ◌}
 use Rattle.std.proofs.Common.{sym, ◌∙◌, ap, ap₂, true≢false, arith}
 use mathlib.Core.List.{List, [], ◌∷◌, ◌++◌, reverse, reverse-cons, reverse-reverse}
 use Rattle.std.specs.Int.Signed.{lt_z}

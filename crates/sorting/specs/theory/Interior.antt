@@ -14,7 +14,7 @@ use mathlib.Core.List.Memᴰ
 use Rattle.std.proofs.Math.Seq.{take-length}
 use Rattle.std.specs.Int.Signed.{lt_z}
 use Rattle.integer.specs.Linear.{lia, linear, ◌&◌}
-use Rattle.integer.specs.Order.{weaken, le_trans, le_antisym, lt-or-le, le-lt_z, lt_z-true, ◌≤×≤◌}
+use Rattle.integer.specs.Order.{weaken, le_trans, le_antisym, lt-or-le, lt_z-true, ◌≤×≤◌}
 use Rattle.plane.specs.Point.{Point, points, corner, ◌∈◌}
 use Rattle.plane.specs.Direction.{value, support}
 use Rattle.plane.specs.Corner.{shape_of}

@@ -1,5 +1,5 @@
 -- `of_eighths` meets its contract: small readings are not whole, all others are scaled exactly.
-use Rattle.std.proofs.Common.{sym, ◌∙◌, rules}
+use Rattle.std.proofs.Common.{sym, ◌∙◌}
 use lib.Ieee.{binary64, of_bits}
 use lib.Ieee.Fits.{mul-fits}
 use Rattle.tablet.proofs.theory.Reads.{small-not-whole, scaled-same}

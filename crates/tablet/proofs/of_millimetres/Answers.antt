@@ -1,6 +1,5 @@
 -- `of_millimetres` meets its contract, test by test. What passes 31 bits is out of range.
-use Rattle.std.proofs.Common.{◌≡◌, true, sym, ap, ◌∙◌, w32, rules}
-use borrow.Author.Tests.{not-true, not-false}
+use Rattle.std.proofs.Common.{◌≡◌, true, sym, ap, ◌∙◌, w32}
 use Rattle.integer.specs.Machine.{result-is}
 use Rattle.plane.specs.Refusal.{outside}
 use Rattle.tablet.specs.Double.{finite}

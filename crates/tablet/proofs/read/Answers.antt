@@ -1,5 +1,5 @@
 -- `read` meets its contract. What an arm binds is a double, which fits its format.
-use Rattle.std.proofs.Common.{T, sym, ap, ◌∙◌, subst, rules}
+use Rattle.std.proofs.Common.{T, sym, ap, ◌∙◌, subst}
 use Rattle.tablet.specs.Reading.{read_as}
 use Rattle.tablet.proofs.read.Goals as goal
 

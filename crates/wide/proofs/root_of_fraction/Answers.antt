@@ -1,7 +1,7 @@
 -- `root_of_fraction` meets its contract. The invariant: low is reached and high + 1 is not; the measure is what lies between. Of the
 -- number that is tried it is only known that it lies between.
-use Rattle.std.proofs.Common.{◌-◌, sym, ◌∙◌, arith, rules}
-use Rattle.wide.specs.theory.Bisection.{Between, between_start, between-down, between-up, between-end}
+use Rattle.std.proofs.Common.{sym, ◌∙◌, arith}
+use Rattle.wide.specs.theory.Bisection.{between_start, between-down, between-up, between-end}
 use Rattle.wide.proofs.root_of_fraction.Goals as goal
 
 pub loop-low-init : goal.loop-low-init

@@ -1,5 +1,5 @@
-use Rattle.std.proofs.Common.{◌-◌, sym, ◌∙◌, arith, rules}
-use Rattle.wide.specs.theory.Bisection.{Between, between_start, between-down, between-up, between-end}
+use Rattle.std.proofs.Common.{◌-◌}
+use Rattle.wide.specs.theory.Bisection.{Between}
 use Rattle.wide.proofs.root_of_fraction.Given as goal
 
 abbrev pub invariant-loop-low : goal.invariant-loop-low

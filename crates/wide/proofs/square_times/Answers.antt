@@ -1,5 +1,5 @@
 -- `square_times` meets its contract: each product has one word more.
-use Rattle.std.proofs.Common.{◌*◌, ap, ◌∙◌, rules}
+use Rattle.std.proofs.Common.{◌*◌, ap, ◌∙◌}
 use Rattle.wide.specs.theory.Laws.{value-word}
 use Rattle.wide.proofs.square_times.Goals as goal
 

@@ -1,6 +1,5 @@
 -- `corner_at` meets its contract.
 use mathlib.Core.Path.{◌∙◌, ap}
-use borrow.Author.Rules.{rules}
 use Rattle.plane.specs.Point.{opposite}
 use Rattle.polygon.specs.theory.Small.{small-corner}
 use Rattle.calipers.specs.theory.Image.{image-corner}

@@ -1,6 +1,5 @@
 -- `arrived` meets its contract: sums of small parts fit 32 bits.
 use mathlib.Core.Path.{refl, ap₂}
-use borrow.Author.Rules.{rules}
 use Rattle.plane.specs.Point.{point}
 use Rattle.integer.specs.Machine.{machine, bounded, machine-fits, machine-is}
 use Rattle.calipers.proofs.side.arrived.Goals as goal

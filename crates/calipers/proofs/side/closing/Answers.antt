@@ -1,7 +1,6 @@
 -- `closing` meets its contract: the edge back to the first corner, or none.
 use mathlib.Core.Path.{refl, sym, ◌∙◌, ap}
 use native.Mathlib.Omega.{arith}
-use borrow.Author.Rules.{rules}
 use Rattle.plane.specs.Point.{points, ◌⊖◌}
 use Rattle.plane.specs.Cycle.{corner_round}
 use Rattle.polygon.specs.Point.{at}

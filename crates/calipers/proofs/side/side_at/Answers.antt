@@ -1,7 +1,6 @@
 -- `side_at` meets its contract.
 use mathlib.Core.Path.{sym, ◌∙◌, ap}
 use native.Mathlib.Omega.{arith}
-use borrow.Author.Rules.{rules}
 use Rattle.plane.specs.Point.{points, corner}
 use Rattle.plane.specs.Cycle.{corner_round}
 use Rattle.plane.proofs.theory.sum.Positions.{edges-at-most}

@@ -1,5 +1,4 @@
 -- `squared` meets its contract: squares of small parts, and their sum, fit 64 bits.
-use borrow.Author.Rules.{rules}
 use Rattle.integer.specs.Bound.{within-add, within-neg}
 use Rattle.integer.specs.Machine.{Machine, machine, known, machine-fits, machine-is}
 use Rattle.plane.specs.Measure.{squared}

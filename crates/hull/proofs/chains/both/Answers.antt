@@ -1,11 +1,11 @@
 -- `both` meets its contract. The invariant: the stack, and what is left of both rows in order, still give what the scan of all gives; the
 -- measure is what is left.
-use Prim.Native.Nat.{◌+◌, ◌-◌}
+use Prim.Native.Nat.{◌-◌}
 use native.Mathlib.Omega.{arith}
 use Rattle.plane.specs.Point.{points}
 use Rattle.sorting.specs.Order.{closed}
 use Rattle.sorting.specs.theory.Run.{run_length}
-use Rattle.hull.specs.theory.Reading.{line-to, Reading, reading-start, reading-room, reading-more, reading-less}
+use Rattle.hull.specs.theory.Reading.{line-to, reading-start, reading-room, reading-more, reading-less}
 use Rattle.hull.specs.theory.Reading.{first_rest, second-rest}
 use Rattle.hull.specs.theory.Stack.{scanning-rest}
 use Rattle.hull.proofs.chains.both.Goals as goal

@@ -1,11 +1,7 @@
 use Prim.Native.Nat.{◌+◌, ◌-◌}
-use native.Mathlib.Omega.{arith}
 use Rattle.plane.specs.Point.{points}
 use Rattle.sorting.specs.Order.{closed}
-use Rattle.sorting.specs.theory.Run.{run_length}
-use Rattle.hull.specs.theory.Reading.{line-to, Reading, reading-start, reading-room, reading-more, reading-less}
-use Rattle.hull.specs.theory.Reading.{first_rest, second-rest}
-use Rattle.hull.specs.theory.Stack.{scanning-rest}
+use Rattle.hull.specs.theory.Reading.{Reading}
 use Rattle.hull.proofs.chains.both.Given as goal
 
 abbrev pub invariant-loop-i : goal.invariant-loop-i

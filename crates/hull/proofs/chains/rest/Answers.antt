@@ -10,7 +10,7 @@ use Rattle.polygon.specs.Point.{at, Small}
 use Rattle.sorting.specs.Order.{closed, run}
 use Rattle.hull.specs.theory.Peak.{closed-small}
 use Rattle.sorting.specs.theory.Run.{run_length, run_more}
-use Rattle.hull.specs.theory.Stack.{Scanning, scanning-start, scanning-room, scanning-one, scanning-end}
+use Rattle.hull.specs.theory.Stack.{scanning-start, scanning-room, scanning-one, scanning-end}
 use Rattle.hull.proofs.chains.rest.Goals as goal
 use Rattle.hull.proofs.chains.rest.Goals.{After-closed_at}
 

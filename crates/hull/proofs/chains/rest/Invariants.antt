@@ -1,14 +1,7 @@
-use mathlib.Core.Path.{◌≡◌, sym, ap, subst}
-use mathlib.Core.List.{◌∷◌}
-use Prim.Native.Nat.{◌+◌, ◌-◌, ◌^◌}
-use native.Mathlib.Numerals.{add-one}
-use native.Mathlib.Omega.{arith}
+use Prim.Native.Nat.{◌-◌}
 use Rattle.plane.specs.Point.{points}
-use Rattle.polygon.specs.Point.{at, Small}
 use Rattle.sorting.specs.Order.{closed, run}
-use Rattle.hull.specs.theory.Peak.{closed-small}
-use Rattle.sorting.specs.theory.Run.{run_length, run_more}
-use Rattle.hull.specs.theory.Stack.{Scanning, scanning-start, scanning-room, scanning-one, scanning-end}
+use Rattle.hull.specs.theory.Stack.{Scanning}
 use Rattle.hull.proofs.chains.rest.Given as goal
 
 abbrev pub invariant-loop-i : goal.invariant-loop-i

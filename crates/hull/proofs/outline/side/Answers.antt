@@ -2,13 +2,13 @@
 -- measure is how many those are.
 use mathlib.Core.Path.{◌≡◌, subst}
 use mathlib.Core.List.{◌∷◌}
-use Prim.Native.Nat.{◌+◌, ◌-◌, ◌<◌}
+use Prim.Native.Nat.{◌+◌}
 use native.Mathlib.Omega.{arith}
 use Rattle.plane.specs.Point.{points}
 use Rattle.plane.proofs.theory.lists.Flat.{points-length}
 use Rattle.polygon.specs.Point.{at}
 use Rattle.sorting.specs.Buffer.{Settled, route}
-use Rattle.hull.specs.theory.Stack.{Scanning, scanning-start, scanning-room, scanning-one}
+use Rattle.hull.specs.theory.Stack.{scanning-start, scanning-room, scanning-one}
 use Rattle.hull.specs.theory.Route.{route-more, route-length, route-small, sided}
 use Rattle.hull.proofs.outline.side.Goals as goal
 use Rattle.hull.proofs.outline.side.Goals.{After-route_at}

@@ -1,6 +1,5 @@
 -- `ascent` meets its contract: both tests in turn.
 use mathlib.Core.Path.{sym, ◌∙◌}
-use borrow.Author.Rules.{rules}
 use Rattle.sorting.specs.Order.{order}
 use Rattle.hull.proofs.rows.ascent.Goals as goal
 

@@ -1,7 +1,6 @@
 -- `closed_at` meets its contract: after the last corner comes the first.
 use mathlib.Core.Path.{◌≡◌, sym, ◌∙◌, ap}
 use native.Mathlib.Omega.{arith}
-use borrow.Author.Rules.{rules}
 use lib.ListN.{length}
 use Rattle.plane.specs.Point.{points, corner}
 use Rattle.sorting.specs.Order.{closed}

@@ -1,7 +1,6 @@
 -- `foremost` meets its contract: the order says which one it is.
 use mathlib.Core.Path.{◌≡◌, sym, ◌∙◌, ap, ap₂}
 use mathlib.Core.Bool.{Bool, cond}
-use borrow.Author.Rules.{rules}
 use lib.IntN.{ℤ, pos}
 use lib.Signed.{le_z}
 use mir.Syntax.{w32}

@@ -1,5 +1,4 @@
 -- `home` meets its contract.
-use borrow.Author.Rules.{rules}
 use borrow.Author.Tests.{eq-eqb, ne_eqb}
 use Rattle.hull.proofs.rows.home.Goals as goal
 

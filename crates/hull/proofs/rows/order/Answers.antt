@@ -1,5 +1,4 @@
 -- `order` meets its contract: on the way down it is the order of q and p on the way up.
-use borrow.Author.Rules.{rules}
 use mir.Syntax.{w32}
 use Rattle.integer.specs.Machine.{result-is}
 use Rattle.sorting.specs.Order.{order}

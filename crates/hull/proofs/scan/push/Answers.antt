@@ -1,6 +1,5 @@
 -- `push` meets its contract: the point is written after what stays under it.
 use native.Mathlib.Omega.{arith}
-use borrow.Author.Rules.{rules}
 use Rattle.plane.proofs.theory.lists.Flat.{points-length}
 use Rattle.hull.specs.theory.Stack.{settled-scanned}
 use Rattle.hull.proofs.scan.push.Goals as goal

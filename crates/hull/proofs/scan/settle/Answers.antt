@@ -5,9 +5,7 @@ use lib.IntN.{ℤ, pos}
 use lib.Signed.{lt_z}
 use mir.Syntax.{w64}
 use Rattle.integer.specs.Machine.{result-is}
-use Rattle.plane.specs.Point.{points}
-use Rattle.polygon.specs.Point.{at}
-use Rattle.hull.specs.theory.Stack.{Settling, settle-short, settle-keep, settle-drop}
+use Rattle.hull.specs.theory.Stack.{settle-short, settle-keep, settle-drop}
 use Rattle.hull.proofs.scan.settle.Goals as goal
 
 pub loop-kept-init : goal.loop-kept-init

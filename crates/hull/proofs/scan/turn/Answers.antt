@@ -1,6 +1,5 @@
 -- `turn` meets its contract: the cross product of the two steps from a.
 use mathlib.Core.Path.{sym, ◌∙◌, ap₂}
-use borrow.Author.Rules.{rules}
 use mir.Syntax.{w64}
 use Rattle.integer.specs.Machine.{result-is}
 use Rattle.plane.specs.Turn.{cross, turn-cross}

@@ -1,6 +1,5 @@
 -- `entry` meets its contract: a table of all places says what was marked, and an empty one says nothing of any name.
 use mathlib.Core.Path.{refl}
-use borrow.Author.Rules.{rules}
 use Rattle.journal.proofs.theory.Marks.{marked_empty}
 use Rattle.journal.proofs.current.entry.Goals as goal
 

@@ -1,9 +1,9 @@
 -- `is_held` meets its contract. The invariant: the name is held from `from` on exactly if it is from p on; the measure is what is left.
 use mathlib.Core.Path.{◌≡◌, sym, ◌∙◌, subst}
 use mathlib.Core.Bool.{true}
-use Prim.Native.Nat.{◌-◌, ◌≤◌}
+use Prim.Native.Nat.{◌≤◌}
 use native.Mathlib.Omega.{arith}
-use lib.ListN.{length, drop}
+use lib.ListN.{drop}
 use Rattle.journal.specs.Format.{size, whole, name as format_name}
 use Rattle.journal.proofs.theory.Survey.{name-at, next-inside}
 use Rattle.journal.proofs.theory.Stepping.{legible-least, reached-sound}

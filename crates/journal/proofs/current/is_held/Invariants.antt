@@ -1,12 +1,6 @@
-use mathlib.Core.Path.{◌≡◌, sym, ◌∙◌, subst}
-use mathlib.Core.Bool.{true}
-use Prim.Native.Nat.{◌-◌, ◌≤◌}
-use native.Mathlib.Omega.{arith}
-use lib.ListN.{length, drop}
-use Rattle.journal.specs.Format.{size, whole, name as format_name}
-use Rattle.journal.proofs.theory.Survey.{name-at, next-inside}
-use Rattle.journal.proofs.theory.Stepping.{legible-least, reached-sound}
-use Rattle.journal.proofs.theory.Ahead.{Ahead, ahead-start, ahead-next, ahead-found, ahead-end}
+use Prim.Native.Nat.{◌-◌}
+use lib.ListN.{length}
+use Rattle.journal.proofs.theory.Ahead.{Ahead}
 use Rattle.journal.proofs.current.is_held.Given as goal
 
 abbrev pub invariant-loop-from : goal.invariant-loop-from

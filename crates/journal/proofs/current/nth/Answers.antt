@@ -2,9 +2,9 @@
 -- is left of the log.
 use mathlib.Core.Path.{◌≡◌, sym, ◌∙◌, subst}
 use mathlib.Core.Bool.{true}
-use Prim.Native.Nat.{ℕ, ◌-◌}
+use Prim.Native.Nat.{ℕ}
 use native.Mathlib.Omega.{arith}
-use lib.ListN.{length, drop}
+use lib.ListN.{drop}
 use Rattle.journal.specs.Format.{whole}
 use Rattle.journal.specs.Survey.{next_at}
 use Rattle.journal.specs.Marks.{Marked}

@@ -1,10 +1,9 @@
 -- `latest` meets its contract. The invariant: what is found up to p, and what is still to come; the measure is what is left.
 use mathlib.Core.Path.{◌≡◌, sym, ◌∙◌, subst}
 use mathlib.Core.Bool.{true}
-use Prim.Native.Nat.{ℕ, ◌-◌}
+use Prim.Native.Nat.{ℕ}
 use native.Mathlib.Omega.{arith}
-use borrow.Author.Rules.{rules}
-use lib.ListN.{length, drop}
+use lib.ListN.{drop}
 use Rattle.journal.specs.Format.{whole}
 use Rattle.journal.specs.Survey.{newer}
 use Rattle.journal.specs.declared.latest.Found.{Found}

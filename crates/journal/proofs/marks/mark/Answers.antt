@@ -1,8 +1,8 @@
 -- `mark` meets its contract. The invariant: the table is filled as far as p; the measure is what is left of the log.
 use mathlib.Core.Path.{sym, ◌∙◌, subst}
-use Prim.Native.Nat.{◌-◌, ◌%◌}
+use Prim.Native.Nat.{◌%◌}
 use native.Mathlib.Omega.{arith}
-use lib.ListN.{length, set}
+use lib.ListN.{set}
 use Rattle.journal.specs.Survey.{Sound}
 use Rattle.journal.proofs.theory.Survey.{name-at, next-inside}
 use Rattle.journal.proofs.theory.Stepping.{name-here, name-inside, reached-sound}

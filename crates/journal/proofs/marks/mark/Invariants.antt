@@ -1,11 +1,6 @@
-use mathlib.Core.Path.{sym, ◌∙◌, subst}
-use Prim.Native.Nat.{◌-◌, ◌%◌}
-use native.Mathlib.Omega.{arith}
-use lib.ListN.{length, set}
-use Rattle.journal.specs.Survey.{Sound}
-use Rattle.journal.proofs.theory.Survey.{name-at, next-inside}
-use Rattle.journal.proofs.theory.Stepping.{name-here, name-inside, reached-sound}
-use Rattle.journal.proofs.theory.Marks.{Marking, marking-start, marking-next, marking-end}
+use Prim.Native.Nat.{◌-◌}
+use lib.ListN.{length}
+use Rattle.journal.proofs.theory.Marks.{Marking}
 use Rattle.journal.proofs.marks.mark.Given as goal
 
 abbrev pub invariant-loop-table : goal.invariant-loop-table

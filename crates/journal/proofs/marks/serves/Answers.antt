@@ -2,9 +2,8 @@
 -- what is left.
 use mathlib.Core.Path.{◌≡◌, sym, ◌∙◌}
 use mathlib.Core.Bool.{true, true≢false}
-use Prim.Native.Nat.{◌-◌, ◌≤◌, ◌<◌}
 use native.Mathlib.Omega.{arith}
-use lib.ListN.{length, drop}
+use lib.ListN.{drop}
 use Rattle.journal.specs.Format.{whole}
 use Rattle.journal.proofs.theory.Survey.{next-inside}
 use Rattle.journal.proofs.marks.serves.Goals as goal

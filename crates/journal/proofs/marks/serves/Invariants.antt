@@ -1,10 +1,5 @@
-use mathlib.Core.Path.{◌≡◌, sym, ◌∙◌}
-use mathlib.Core.Bool.{true, true≢false}
 use Prim.Native.Nat.{◌-◌, ◌≤◌, ◌<◌}
-use native.Mathlib.Omega.{arith}
-use lib.ListN.{length, drop}
-use Rattle.journal.specs.Format.{whole}
-use Rattle.journal.proofs.theory.Survey.{next-inside}
+use lib.ListN.{length}
 use Rattle.journal.proofs.marks.serves.Given as goal
 
 abbrev pub invariant-loop-p : goal.invariant-loop-p

@@ -1,9 +1,8 @@
 -- `pass` meets its contract. The invariant: the records up to p are good; the measure is what is left.
 use mathlib.Core.Path.{◌≡◌, refl, sym, ◌∙◌, subst}
 use mathlib.Core.Bool.{true}
-use Prim.Native.Nat.{◌-◌}
 use native.Mathlib.Omega.{arith}
-use lib.ListN.{length, drop}
+use lib.ListN.{drop}
 use Rattle.journal.specs.Format.{whole}
 use Rattle.journal.proofs.theory.Survey.{Along, next-inside, along-start, along-good, along-bad, along-end}
 use Rattle.journal.proofs.survey.pass.Goals as goal

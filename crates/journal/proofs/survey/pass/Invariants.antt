@@ -1,10 +1,7 @@
-use mathlib.Core.Path.{◌≡◌, refl, sym, ◌∙◌, subst}
-use mathlib.Core.Bool.{true}
+use mathlib.Core.Path.{◌≡◌}
 use Prim.Native.Nat.{◌-◌}
-use native.Mathlib.Omega.{arith}
-use lib.ListN.{length, drop}
-use Rattle.journal.specs.Format.{whole}
-use Rattle.journal.proofs.theory.Survey.{Along, next-inside, along-start, along-good, along-bad, along-end}
+use lib.ListN.{length}
+use Rattle.journal.proofs.theory.Survey.{Along}
 use Rattle.journal.proofs.survey.pass.Given as goal
 
 abbrev pub invariant-loop-buffer : goal.invariant-loop-buffer

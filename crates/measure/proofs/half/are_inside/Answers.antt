@@ -1,6 +1,5 @@
 -- `are_inside` meets its contract.
 use mathlib.Core.Bool.{false≢true}
-use borrow.Author.Rules.{rules}
 use Rattle.measure.proofs.half.are_inside.Goals as goal
 
 pub returns-then-top-s : goal.returns-then-top-s

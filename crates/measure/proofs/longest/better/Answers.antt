@@ -1,7 +1,6 @@
 -- `better` meets its contract: the distances decide, then the positions.
 use mathlib.Core.Path.{refl}
 use native.Mathlib.Omega.{arith}
-use borrow.Author.Rules.{rules}
 use Rattle.measure.specs.Scan.{kept, replaced}
 use Rattle.measure.proofs.Pairs.{kept-level}
 use Rattle.measure.proofs.longest.better.Goals as goal

@@ -1,10 +1,8 @@
 -- `longest` meets its contract. The invariant: the best pair of the places passed; the measure is how many steps are to come at most.
 use Prim.Native.Nat.{◌+◌, ◌-◌, ◌<◌}
 use native.Mathlib.Omega.{arith}
-use borrow.Author.Rules.{rules}
 use Rattle.plane.specs.Point.{points}
 use Rattle.measure.specs.Half.{HalfStep}
-use Rattle.measure.specs.Partway.{Search}
 use Rattle.measure.specs.Scan.{HalfAt}
 use Rattle.measure.specs.theory.Chains.{chains-found}
 use Rattle.measure.proofs.Stepped.{half-edges, half-corners, half_room, half-on}

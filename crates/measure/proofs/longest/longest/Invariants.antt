@@ -1,13 +1,5 @@
-use Prim.Native.Nat.{◌+◌, ◌-◌, ◌<◌}
-use native.Mathlib.Omega.{arith}
-use borrow.Author.Rules.{rules}
-use Rattle.plane.specs.Point.{points}
-use Rattle.measure.specs.Half.{HalfStep}
+use Prim.Native.Nat.{◌+◌, ◌-◌}
 use Rattle.measure.specs.Partway.{Search}
-use Rattle.measure.specs.Scan.{HalfAt}
-use Rattle.measure.specs.theory.Chains.{chains-found}
-use Rattle.measure.proofs.Stepped.{half-edges, half-corners, half_room, half-on}
-use Rattle.measure.proofs.Pairs.{search-next, search-done}
 use Rattle.measure.proofs.longest.longest.Given as goal
 
 abbrev pub invariant-loop-s : goal.invariant-loop-s

@@ -2,7 +2,7 @@
 -- steps are to come at most.
 use mathlib.Core.Path.{◌≡◌, refl, ◌∙◌}
 use mathlib.Core.Bool.{Bool, not, cond}
-use Prim.Native.Nat.{◌+◌, ◌-◌, ◌≤◌, ◌<◌}
+use Prim.Native.Nat.{◌+◌, ◌<◌}
 use native.Mathlib.Omega.{arith}
 use lib.IntN.{pos}
 use lib.Signed.{lt_z}
@@ -12,7 +12,6 @@ use Rattle.integer.specs.Machine.{result-is}
 use Rattle.plane.specs.Point.{points}
 use Rattle.calipers.specs.declared.side.Side.{Side}
 use Rattle.calipers.specs.Side.{onward, Carried}
-use Rattle.measure.specs.Partway.{Search}
 use Rattle.measure.specs.Scan.{HalfAt}
 use Rattle.measure.specs.theory.Chains.{chains-in}
 use Rattle.measure.proofs.Stepped.{Inside, half-start, half-edges, half-corners, half_room, half-on}

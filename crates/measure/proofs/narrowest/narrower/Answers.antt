@@ -1,9 +1,8 @@
 -- `narrower` meets its contract: the fractions decide, then the positions.
 use mathlib.Core.Path.{◌≡◌, refl, sym, ◌∙◌}
-use mathlib.Core.Bool.{true, false}
+use mathlib.Core.Bool.{true}
 use Prim.Native.Nat.{◌*◌}
 use native.Mathlib.Omega.{arith}
-use borrow.Author.Rules.{rules}
 use borrow.Author.Tests.{ltb-true, le-ltb}
 use Rattle.plane.proofs.theory.lists.Sought.{true-not-false}
 use Rattle.measure.specs.declared.narrowest.Across.{Across}

@@ -1,10 +1,7 @@
 -- `narrowest` meets its contract. The invariant: the best of the edges passed; the measure is how many steps are to come.
 use mathlib.Core.Path.{refl, sym, ◌∙◌}
 use mathlib.Core.Bool.{true, false}
-use Prim.Native.Nat.{◌+◌, ◌-◌}
 use native.Mathlib.Omega.{arith}
-use borrow.Author.Rules.{rules}
-use Rattle.measure.specs.Partway.{Sweep}
 use Rattle.measure.specs.theory.Chains.{chains-found}
 use Rattle.measure.proofs.Stepped.{half-edges, half_room, half-on}
 use Rattle.measure.proofs.Sweep.{sweep-fits, sweep-next, sweep-done}

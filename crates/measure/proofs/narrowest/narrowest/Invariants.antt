@@ -1,12 +1,5 @@
-use mathlib.Core.Path.{refl, sym, ◌∙◌}
-use mathlib.Core.Bool.{true, false}
 use Prim.Native.Nat.{◌+◌, ◌-◌}
-use native.Mathlib.Omega.{arith}
-use borrow.Author.Rules.{rules}
 use Rattle.measure.specs.Partway.{Sweep}
-use Rattle.measure.specs.theory.Chains.{chains-found}
-use Rattle.measure.proofs.Stepped.{half-edges, half_room, half-on}
-use Rattle.measure.proofs.Sweep.{sweep-fits, sweep-next, sweep-done}
 use Rattle.measure.proofs.narrowest.narrowest.Given as goal
 
 abbrev pub invariant-loop-s : goal.invariant-loop-s

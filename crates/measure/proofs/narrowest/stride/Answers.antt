@@ -1,19 +1,16 @@
 -- `stride` meets its contract. The invariant: the best of the edges passed; the measure is how many steps are to come.
 use mathlib.Core.Path.{◌≡◌, refl}
 use mathlib.Core.Bool.{Bool, true, false}
-use Prim.Native.Nat.{◌+◌, ◌-◌, ◌<◌}
+use Prim.Native.Nat.{◌+◌, ◌<◌}
 use native.Mathlib.Omega.{arith}
-use borrow.Author.Rules.{rules}
 use lib.IntN.{pos}
 use lib.Signed.{lt_z}
 use mir.Syntax.{w64}
 use mir.Val.{to_z, of_z}
 use Rattle.integer.specs.Machine.{result-is}
 use Rattle.plane.specs.Turn.{cross}
-use Rattle.polygon.specs.Point.{at}
 use Rattle.calipers.specs.Side.{next_of}
 use Rattle.measure.specs.Half.{goes_right}
-use Rattle.measure.specs.Partway.{Sweep}
 use Rattle.measure.specs.theory.Chains.{chains-in}
 use Rattle.measure.proofs.Stepped.{Inside, half-start, half-edges, half_room, half-on, inside_on, inside-left, inside-told}
 use Rattle.measure.proofs.Sweep.{sweep-start, sweep-fits, sweep-next}

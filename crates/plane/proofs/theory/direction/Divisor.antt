@@ -1,7 +1,7 @@
 -- Refusal 12 as number theory says it: some number above 1 divides both parts.
 --     common→divides     a direction that 12 refuses is such a multiple of another
 --     divides→common     and 12 refuses every such multiple other than (0,0)
-use Rattle.std.specs.Prelude.{◌≡◌, true, ℕ, ◌*◌, ◌<◌, ℤ, pos, nat_abs, ◌*ℤ◌}
+use Rattle.std.specs.Prelude.{◌≡◌, true, ℕ, ◌<◌, ℤ, pos, nat_abs, ◌*ℤ◌}
 use Rattle.std.proofs.Math.Path.{sym}
 use Rattle.std.proofs.Common.{◌∙◌, ap, subst, lt_of_lt_of_le}
 use Rattle.std.specs.Int.{◌∣◌}

@@ -16,7 +16,7 @@ use Rattle.plane.specs.Point.{Point, corner}
 use Rattle.plane.specs.Turn.{Left}
 use Rattle.plane.specs.Shape.{next, IsShape}
 use Rattle.plane.specs.Forms.{NonZero}
-use Rattle.plane.specs.Direction.{value, support, furthest}
+use Rattle.plane.specs.Direction.{value, furthest}
 use Rattle.plane.specs.Face.{is_furthest, is_flat, flat_edge, face_first, face_last, Furthest, Face}
 use Rattle.plane.proofs.theory.lists.Members.{position-member}
 use Rattle.plane.proofs.theory.lists.Next.{Following, onward, closing, following, next-below, two_steps}

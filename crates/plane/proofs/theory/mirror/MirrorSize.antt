@@ -2,7 +2,7 @@
 --     mirror-few, mirror-near     rows 6 and 7 do not apply to it
 --     mirror-little               row 8 is the first that applies where the output holds fewer numbers than the list's corners
 --     mirror-enough               else none does
-use Rattle.std.specs.Prelude.{◌≡◌, true, false, List, [], ◌∷◌, ℕ, ◌*◌, ◌≤◌, ◌<◌, ℤ, pos, length}
+use Rattle.std.specs.Prelude.{◌≡◌, true, false, List, ℕ, ◌*◌, ◌≤◌, ◌<◌, ℤ, length}
 use Rattle.std.proofs.Common.{sym, ◌∙◌, ap, subst, arith}
 use borrow.Author.Tests.{lt-ltb, le-ltb}
 use Rattle.integer.specs.Bound.{within-neg}

@@ -7,11 +7,11 @@
 --     asked-floors                      two good shapes on different floors are refused 13
 --     shapes-given, rest-given, rest-none     the first row that applies, by the part of the table where it is
 --     given-kept, none-wrote            the output, by the first row that applies, or if none does
-use Rattle.std.specs.Prelude.{◌≡◌, refl, not, List, [], ◌∷◌, ◌++◌, ℕ, ℤ}
-use Rattle.std.proofs.Common.{sym, ◌∙◌, ap, subst, eqb-true, eq-eqb, ne_eqb}
+use Rattle.std.specs.Prelude.{◌≡◌, not, List, [], ◌∷◌, ◌++◌, ℕ, ℤ}
+use Rattle.std.proofs.Common.{sym, ap, subst, eqb-true, eq-eqb, ne_eqb}
 use Rattle.std.proofs.lemmas.Bool.{not-false}
 use Rattle.plane.specs.Point.{numbers}
-use Rattle.plane.specs.Reply.{Reply, answered, refused, Row, NoneApply, First, here}
+use Rattle.plane.specs.Reply.{answered, refused, Row, NoneApply, First, here}
 use Rattle.plane.specs.Refusal.{shape_rows, Valid}
 use Rattle.plane.specs.Output.{overwritten}
 use Rattle.plane.specs.Floor.{Floored, Shapes, no_shape, one_shape, two_shapes, many_points, floor_row, pair_rows, rows_of, Same, Admitted}

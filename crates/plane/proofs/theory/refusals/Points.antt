@@ -1,6 +1,6 @@
 -- Rows 1 to 3 of a sweep's points (document 02, W10).
 --     accepted→points, points→accepted     they do not apply exactly if the list holds the points of a sweep
-use Rattle.std.specs.Prelude.{◌≡◌, List, ℤ, length}
+use Rattle.std.specs.Prelude.{List, ℤ, length}
 use borrow.Author.Tests.{ltb-false, le-ltb}
 use Rattle.plane.specs.Limits.{max_points}
 use Rattle.plane.specs.Point.{points}

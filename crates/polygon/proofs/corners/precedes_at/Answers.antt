@@ -1,6 +1,5 @@
 -- `precedes_at` meets its contract.
 use mathlib.Core.Path.{◌∙◌, ap₂}
-use borrow.Author.Rules.{rules}
 use Rattle.plane.specs.Shape.{precedes}
 use Rattle.polygon.proofs.corners.precedes_at.Goals as goal
 

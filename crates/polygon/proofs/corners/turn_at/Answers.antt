@@ -1,6 +1,5 @@
 -- `turn_at` meets its contract: the cross product of the two steps from corner a.
 use mathlib.Core.Path.{sym, ◌∙◌, ap₂}
-use borrow.Author.Rules.{rules}
 use mir.Syntax.{w64}
 use Rattle.integer.specs.Machine.{result-is}
 use Rattle.plane.specs.Point.{◌⊖◌}

@@ -1,15 +1,14 @@
 -- `extent_of` meets its contract. The invariant: the two points are as high as the first i corners, and as their opposites; the measure is
 -- what is left.
 use mathlib.Core.Path.{◌≡◌, ◌∙◌, ap, subst, sym}
-use Prim.Native.Nat.{◌-◌, ◌≤◌, ◌<◌, ◌^◌}
+use Prim.Native.Nat.{◌≤◌, ◌<◌, ◌^◌}
 use native.Mathlib.Omega.{arith}
 use lib.ListN.{length}
 use Rattle.integer.specs.Bound.{within-neg}
 use Rattle.plane.specs.Point.{Point, points, opposite}
-use Rattle.plane.specs.Corner.{mirrored}
 use Rattle.polygon.specs.Point.{at, Small}
 use Rattle.polygon.specs.theory.Small.{small-corner}
-use Rattle.polygon.specs.theory.Extents.{Reached, reached-start, reached-more, reached-end}
+use Rattle.polygon.specs.theory.Extents.{reached-start, reached-more, reached-end}
 use Rattle.polygon.specs.theory.Extents.{mirrored-start, mirrored-more, mirrored-end}
 use Rattle.polygon.proofs.extent.extent_of.Goals as goal
 use Rattle.polygon.proofs.extent.extent_of.Goals.{After-corner_at-first, After-corner_at-p, In-loop-i}

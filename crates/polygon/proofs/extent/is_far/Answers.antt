@@ -1,7 +1,6 @@
 -- `is_far` meets its contract.
 use mathlib.Core.Path.{◌∙◌, ap₂}
 use mathlib.Core.Bool.{◌||◌}
-use borrow.Author.Rules.{rules}
 use Rattle.polygon.proofs.extent.is_far.Goals as goal
 
 pub returns : goal.returns

@@ -5,7 +5,6 @@ use mathlib.Core.Bool.{◌||◌}
 use lib.IntN.{ℤ, pos, neg_ℤ}
 use lib.Signed.{lt_z}
 use mir.Facts.{to_z-of_z}
-use borrow.Author.Rules.{rules}
 use Rattle.integer.specs.Bound.{beyond-size}
 use Rattle.plane.specs.Limits.{max_coordinate}
 use Rattle.plane.specs.Refusal.{outside}

@@ -1,7 +1,6 @@
 -- `mirror` meets its contract: begun at the top, the opposites are the mirror image.
 use mathlib.Core.Path.{sym, ◌∙◌, ap}
 use mathlib.Core.List.{List}
-use borrow.Author.Rules.{rules}
 use Rattle.plane.specs.Point.{Point, numbers}
 use Rattle.plane.specs.Output.{overwritten}
 use Rattle.plane.proofs.theory.mirror.Mirror.{mirror-known}

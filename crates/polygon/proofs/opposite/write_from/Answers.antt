@@ -1,9 +1,8 @@
 -- `write_from` meets its contract: the opposites from the start on, then those before it.
 use mathlib.Core.Path.{◌≡◌, sym, ◌∙◌, ap, ap₂}
 use mathlib.Core.List.{List, ◌++◌, map, map-append}
-use Prim.Native.Nat.{ℕ, ◌+◌, ◌*◌, ◌-◌, ◌≤◌}
+use Prim.Native.Nat.{ℕ, ◌*◌, ◌-◌, ◌≤◌}
 use native.Mathlib.Omega.{arith}
-use borrow.Author.Rules.{rules}
 use lib.IntN.{ℤ, neg_ℤ}
 use lib.ListN.{length, take, drop, length-map, length-drop}
 use lib.Seq.{paste, length-paste}

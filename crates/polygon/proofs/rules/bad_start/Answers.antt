@@ -1,12 +1,11 @@
 -- `bad_start` meets its contract. The invariant: no corner before c precedes the first; the measure is what is left.
 use mathlib.Core.Path.{sym, ◌∙◌}
-use Prim.Native.Nat.{◌-◌, ◌<◌}
+use Prim.Native.Nat.{◌<◌}
 use native.Mathlib.Omega.{arith}
 use lib.ListN.{length}
-use Rattle.plane.specs.Point.{points, corner}
-use Rattle.plane.specs.Shape.{precedes}
+use Rattle.plane.specs.Point.{points}
 use Rattle.plane.specs.Refusal.{bad_start}
-use Rattle.plane.proofs.theory.lists.Sought.{Sought, sought-start, sought-more, sought-yes, sought-no}
+use Rattle.plane.proofs.theory.lists.Sought.{sought-start, sought-more, sought-yes, sought-no}
 use Rattle.polygon.proofs.rules.bad_start.Goals as goal
 use Rattle.polygon.proofs.rules.bad_start.Goals.{In-loop-c}
 

@@ -1,11 +1,8 @@
-use mathlib.Core.Path.{sym, ◌∙◌}
-use Prim.Native.Nat.{◌-◌, ◌<◌}
-use native.Mathlib.Omega.{arith}
+use Prim.Native.Nat.{◌-◌}
 use lib.ListN.{length}
 use Rattle.plane.specs.Point.{points, corner}
 use Rattle.plane.specs.Shape.{precedes}
-use Rattle.plane.specs.Refusal.{bad_start}
-use Rattle.plane.proofs.theory.lists.Sought.{Sought, sought-start, sought-more, sought-yes, sought-no}
+use Rattle.plane.proofs.theory.lists.Sought.{Sought}
 use Rattle.polygon.proofs.rules.bad_start.Given as goal
 
 abbrev pub invariant-loop-c : goal.invariant-loop-c

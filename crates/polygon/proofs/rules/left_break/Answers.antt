@@ -1,15 +1,12 @@
 -- `left_break` meets its contract. The invariants: nothing was found, at no edge before this one, and at this edge at no corner before
 -- this one; the measures are what is left.
-use mathlib.Core.Path.{◌≡◌, refl, sym, ◌∙◌}
-use Prim.Native.Nat.{◌-◌, ◌<◌}
+use mathlib.Core.Path.{refl, sym, ◌∙◌}
+use Prim.Native.Nat.{◌<◌}
 use native.Mathlib.Omega.{arith}
 use lib.ListN.{length}
 use Rattle.plane.specs.Point.{points}
-use Rattle.plane.specs.Search.{some}
-use Rattle.plane.specs.Shape.{breaks}
 use Rattle.plane.specs.Refusal.{left_broken, breaking_edge}
-use Rattle.plane.proofs.theory.lists.Sought.{Sought, sought-start, sought-more, sought-found, sought-yes, sought-no}
-use Rattle.polygon.specs.declared.rules.Broken.TheVariants.{Nowhere}
+use Rattle.plane.proofs.theory.lists.Sought.{sought-start, sought-more, sought-found, sought-yes, sought-no}
 use Rattle.polygon.proofs.LeftRule.{left-break-at, left-break-nowhere}
 use Rattle.polygon.proofs.rules.left_break.Goals as goal
 use Rattle.polygon.proofs.rules.left_break.Goals.{In-edges, In-loop-corner}

@@ -1,14 +1,11 @@
-use mathlib.Core.Path.{◌≡◌, refl, sym, ◌∙◌}
-use Prim.Native.Nat.{◌-◌, ◌<◌}
-use native.Mathlib.Omega.{arith}
+use mathlib.Core.Path.{◌≡◌}
+use Prim.Native.Nat.{◌-◌}
 use lib.ListN.{length}
 use Rattle.plane.specs.Point.{points}
 use Rattle.plane.specs.Search.{some}
 use Rattle.plane.specs.Shape.{breaks}
-use Rattle.plane.specs.Refusal.{left_broken, breaking_edge}
-use Rattle.plane.proofs.theory.lists.Sought.{Sought, sought-start, sought-more, sought-found, sought-yes, sought-no}
+use Rattle.plane.proofs.theory.lists.Sought.{Sought}
 use Rattle.polygon.specs.declared.rules.Broken.TheVariants.{Nowhere}
-use Rattle.polygon.proofs.LeftRule.{left-break-at, left-break-nowhere}
 use Rattle.polygon.proofs.rules.left_break.Given as goal
 
 abbrev pub invariant-loop-corner : goal.invariant-loop-corner

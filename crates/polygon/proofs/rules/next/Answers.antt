@@ -1,5 +1,4 @@
 -- `next` meets its contract.
-use borrow.Author.Rules.{rules}
 use borrow.Author.Tests.{eq-eqb, ne_eqb}
 use native.Mathlib.Omega.{arith}
 use Rattle.polygon.proofs.rules.next.Goals as goal

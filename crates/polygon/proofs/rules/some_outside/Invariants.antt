@@ -1,15 +1,9 @@
-use mathlib.Core.Path.{◌≡◌, refl, sym, ◌∙◌, ap, ap₂}
-use mathlib.Core.Bool.{Bool, ◌||◌}
-use Prim.Native.Nat.{ℕ, ◌-◌, ◌≤◌}
-use native.Mathlib.Numerals.{add-one}
-use native.Mathlib.Omega.{arith}
-use borrow.Author.Rules.{rules, sfits_of}
+use mathlib.Core.Path.{◌≡◌}
+use Prim.Native.Nat.{◌-◌, ◌≤◌}
 use lib.IntN.{pos}
 use lib.ListN.{length, get_or}
-use mir.Facts.{to_z-of_z}
 use Rattle.plane.specs.Search.{some}
 use Rattle.plane.specs.Refusal.{outside}
-use Rattle.plane.proofs.theory.refusals.Tests.{outside-some}
 use Rattle.polygon.proofs.rules.some_outside.Given as goal
 
 abbrev pub invariant-loop-i : goal.invariant-loop-i

@@ -1,11 +1,8 @@
 -- `find` meets its contract. The invariant: no corner before i turns in; the measure is what is left.
 use mathlib.Core.Path.{sym, ◌∙◌}
-use Prim.Native.Nat.{◌-◌}
 use native.Mathlib.Omega.{arith}
-use lib.ListN.{length}
-use Rattle.plane.specs.Point.{points}
-use Rattle.plane.proofs.theory.lists.Sought.{Sought, sought-start, sought-more, sought-found, sought-none}
-use Rattle.ring.specs.Ring.{inward_at, first_inward}
+use Rattle.plane.proofs.theory.lists.Sought.{sought-start, sought-more, sought-found, sought-none}
+use Rattle.ring.specs.Ring.{first_inward}
 use Rattle.ring.proofs.inward.find.Goals as goal
 
 pub loop-i-init : goal.loop-i-init

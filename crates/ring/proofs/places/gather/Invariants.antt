@@ -1,15 +1,12 @@
-use mathlib.Core.Path.{◌≡◌, refl, sym, ◌∙◌, ap, subst}
-use mathlib.Core.Bool.{Bool, not}
-use mathlib.Core.List.{List, ◌∷◌, ◌++◌}
-use Prim.Native.Nat.{ℕ, ◌+◌, ◌-◌, ◌≤◌, ◌<◌}
-use native.Mathlib.Omega.{arith}
-use lib.ListN.{length, length-set}
+use mathlib.Core.Path.{◌≡◌}
+use mathlib.Core.List.{◌∷◌}
+use Prim.Native.Nat.{◌-◌, ◌≤◌, ◌<◌}
+use lib.ListN.{length}
 use Rattle.plane.specs.Point.{points, corner}
 use Rattle.plane.specs.Shape.{next}
-use Rattle.ring.specs.Round.{optional, differing}
+use Rattle.ring.specs.Round.{differing}
 use Rattle.ring.specs.Ring.{walked}
-use Rattle.ring.specs.theory.Buffers.{Coming, coming-keep, coming-end, coming-put}
-use Rattle.ring.specs.theory.Steps.{walked_step}
+use Rattle.ring.specs.theory.Buffers.{Coming}
 use Rattle.ring.proofs.places.gather.Given as goal
 
 abbrev pub invariant-loop-i : goal.invariant-loop-i

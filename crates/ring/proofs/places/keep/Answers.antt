@@ -6,7 +6,6 @@ use Prim.Native.Nat.{ℕ, ◌+◌}
 use native.Mathlib.Numerals.{add-one}
 use native.Mathlib.Omega.{arith}
 use native.Mathlib.Nat.{le_refl}
-use borrow.Author.Rules.{rules}
 use lib.ListN.{take, set, length-set}
 use lib.Seq.{take-suc-set, take-set-le}
 use Rattle.ring.specs.Round.{optional}

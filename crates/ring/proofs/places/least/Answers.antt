@@ -1,7 +1,7 @@
 -- `least` meets its contract. The invariant: the best is the least of the first i; the measure is what is left.
 use mathlib.Core.Path.{refl, ◌≡◌, ◌∙◌, ap, sym}
 use mathlib.Core.Bool.{cond}
-use Prim.Native.Nat.{ℕ, ◌-◌, ◌≤◌, zero-le}
+use Prim.Native.Nat.{ℕ, zero-le}
 use native.Mathlib.Numerals.{add-one}
 use native.Mathlib.Omega.{arith}
 use Rattle.plane.specs.Point.{points, corner}

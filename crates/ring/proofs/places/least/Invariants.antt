@@ -1,12 +1,7 @@
-use mathlib.Core.Path.{refl, ◌≡◌, ◌∙◌, ap, sym}
-use mathlib.Core.Bool.{cond}
-use Prim.Native.Nat.{ℕ, ◌-◌, ◌≤◌, zero-le}
-use native.Mathlib.Numerals.{add-one}
-use native.Mathlib.Omega.{arith}
+use mathlib.Core.Path.{◌≡◌}
+use Prim.Native.Nat.{◌-◌, ◌≤◌}
 use Rattle.plane.specs.Point.{points, corner}
-use Rattle.plane.specs.Shape.{precedes}
 use Rattle.ring.specs.Ring.{least_place}
-use Rattle.ring.specs.theory.Steps.{least-at-most}
 use Rattle.ring.proofs.places.least.Given as goal
 
 abbrev pub invariant-loop-i : goal.invariant-loop-i

@@ -1,7 +1,6 @@
 -- `lower` meets its contract.
 use mathlib.Core.Path.{sym, ◌∙◌, ap}
 use mathlib.Core.Bool.{Bool, cond}
-use borrow.Author.Rules.{rules}
 use Rattle.ring.proofs.places.lower.Goals as goal
 
 pub returns-then-precedes_at : goal.returns-then-precedes_at

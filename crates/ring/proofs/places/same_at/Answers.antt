@@ -1,7 +1,6 @@
 -- `same_at` meets its contract: two points are the same if neither precedes the other.
 use mathlib.Core.Path.{sym, ◌∙◌, ap, ap₂}
 use mathlib.Core.Bool.{Bool, not, ◌&&◌}
-use borrow.Author.Rules.{rules}
 use Rattle.plane.specs.Point.{points, corner}
 use Rattle.plane.specs.Shape.{precedes}
 use Rattle.plane.proofs.theory.forms.Precedes.{same_point-neither}

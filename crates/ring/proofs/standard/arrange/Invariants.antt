@@ -1,17 +1,9 @@
-use mathlib.Core.Path.{◌≡◌, sym, ◌∙◌, ap, subst}
-use mathlib.Core.List.{List, map}
-use Prim.Native.Nat.{ℕ, ◌+◌, ◌*◌, ◌-◌, ◌≤◌, zero-le}
-use native.Mathlib.Omega.{arith}
-use borrow.Author.Rules.{rules}
-use lib.IntN.{ℤ}
-use lib.ListN.{length, length-map}
-use Rattle.plane.specs.Point.{Point, points, numbers, corner}
-use Rattle.plane.proofs.theory.lists.Flat.{numbers-length}
-use Rattle.plane.proofs.theory.lists.Filled.{Filled, filled-start, filled-length, filled-corner, filled-done}
+use mathlib.Core.List.{map}
+use Prim.Native.Nat.{◌*◌, ◌-◌, ◌≤◌}
+use Rattle.plane.specs.Point.{points, numbers, corner}
+use Rattle.plane.proofs.theory.lists.Filled.{Filled}
 use Rattle.ring.specs.Round.{in_sense}
 use Rattle.ring.specs.Ring.{walked}
-use Rattle.ring.specs.theory.Steps.{map_at, sense-length}
-use Rattle.ring.specs.theory.Under.{walked-length}
 use Rattle.ring.proofs.standard.arrange.Given as goal
 
 abbrev pub invariant-loop-k : goal.invariant-loop-k

@@ -3,9 +3,7 @@ use mathlib.Core.Path.{sym, subst}
 use mathlib.Core.Bool.{false≢true}
 use Prim.Native.Nat.{ℕ, ◌<◌}
 use native.Mathlib.Omega.{arith}
-use borrow.Author.Rules.{rules}
 use lib.IntN.{pos}
-use lib.ListN.{length}
 use lib.Seq.{length-take-le}
 use lib.Signed.{lt_z}
 use mir.Syntax.{w64}

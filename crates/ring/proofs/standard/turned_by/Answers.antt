@@ -2,7 +2,6 @@
 use mathlib.Core.Path.{◌≡◌, sym}
 use Prim.Native.Nat.{◌+◌, ◌-◌, ◌<◌}
 use native.Mathlib.Omega.{arith}
-use borrow.Author.Rules.{rules}
 use Rattle.plane.specs.Cycle.{turned}
 use Rattle.plane.proofs.theory.lists.Turned.{Turned, ahead, round, turned-cases}
 use Rattle.ring.proofs.standard.turned_by.Goals as goal

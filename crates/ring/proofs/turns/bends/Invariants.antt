@@ -1,16 +1,10 @@
-use mathlib.Core.Path.{◌≡◌, refl, sym, ◌∙◌, ap, ap₂, subst}
-use mathlib.Core.Bool.{Bool, not}
-use mathlib.Core.List.{List, ◌++◌}
-use Prim.Native.Nat.{ℕ, ◌+◌, ◌-◌, ◌≤◌, ◌<◌, zero-le}
-use native.Mathlib.Omega.{arith}
+use mathlib.Core.Path.{◌≡◌}
+use Prim.Native.Nat.{◌-◌, ◌≤◌}
 use lib.ListN.{length, get_or, drop}
-use lib.Seq.{drop-length}
 use Rattle.plane.specs.Point.{points, corner}
-use Rattle.plane.specs.Shape.{next}
-use Rattle.ring.specs.Round.{in_sense, optional, straight, bending, bends}
+use Rattle.ring.specs.Round.{in_sense, bending, bends}
 use Rattle.ring.specs.Ring.{previous}
-use Rattle.ring.specs.theory.Buffers.{Coming, coming-keep, coming-end}
-use Rattle.ring.specs.theory.Steps.{sense-length, bends-start, bends-step}
+use Rattle.ring.specs.theory.Buffers.{Coming}
 use Rattle.ring.proofs.turns.bends.Given as goal
 
 abbrev pub invariant-loop-j : goal.invariant-loop-j

@@ -1,7 +1,6 @@
 -- `corners` meets its contract: the sense, then the bends.
 use mathlib.Core.Path.{subst}
 use mathlib.Core.Bool.{Bool}
-use borrow.Author.Rules.{rules}
 use Rattle.plane.specs.Point.{points, corner}
 use Rattle.ring.specs.Round.{in_sense, bends}
 use Rattle.ring.specs.Places.{Held}

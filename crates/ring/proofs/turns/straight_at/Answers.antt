@@ -1,6 +1,5 @@
 -- `straight_at` meets its contract: the turn decides, and then the product of the two steps.
 use mathlib.Core.Path.{sym, ◌∙◌, ap, ap₂}
-use borrow.Author.Rules.{rules}
 use mir.Syntax.{w64}
 use lib.IntN.{ℤ, pos}
 use lib.Signed.{lt_z}

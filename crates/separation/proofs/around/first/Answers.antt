@@ -3,7 +3,6 @@ use mathlib.Core.Path.{◌≡◌, refl, sym, ◌∙◌, ap, subst}
 use Prim.Native.Nat.{zero-le}
 use mathlib.Core.Bool.{false}
 use native.Mathlib.Omega.{arith}
-use Rattle.plane.specs.Point.{points}
 use Rattle.calipers.specs.Image.{image}
 use Rattle.calipers.specs.Side.{walk_of}
 use Rattle.calipers.specs.Walk.{here, begun, At}

@@ -15,12 +15,11 @@ use Rattle.plane.specs.Turn.{cross}
 use Rattle.plane.specs.Forms.{edges}
 use Rattle.plane.proofs.theory.lists.Flat.{points-length}
 use Rattle.plane.proofs.theory.lists.Sought.{either-false}
-use Rattle.plane.specs.VectorSum.{vector_sum}
 use Rattle.plane.specs.Cut.{outward}
 use Rattle.polygon.specs.Point.{at}
 use Rattle.polygon.specs.theory.Small.{small-wide}
 use Rattle.calipers.specs.Image.{image}
-use Rattle.calipers.specs.Side.{Carried, walk_of}
+use Rattle.calipers.specs.Side.{walk_of}
 use Rattle.calipers.specs.Walk.{here, finished, advanced, At}
 use Rattle.calipers.specs.theory.Carry.{all-passed, some_left, sides-here, sides-advanced, sides-at}
 use Rattle.calipers.specs.theory.Carry.{here-near, first_next, corners-fit, edges_fit}

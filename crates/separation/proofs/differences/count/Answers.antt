@@ -1,16 +1,12 @@
 -- `count` meets its contract. The invariant: a walk under way, `count` corners on; the measure is what is left.
-use mathlib.Core.Path.{◌≡◌, sym, ◌∙◌, ap}
-use mathlib.Core.List.{List}
-use Prim.Native.Nat.{ℕ, ◌+◌, ◌-◌, ◌<◌}
+use mathlib.Core.Path.{sym, ◌∙◌, ap}
+use Prim.Native.Nat.{◌+◌, ◌<◌}
 use native.Mathlib.Omega.{arith}
-use lib.IntN.{ℤ}
 use lib.ListN.{length}
 use mir.Syntax.{w64}
 use Rattle.integer.specs.Machine.{result-is}
 use Rattle.plane.specs.Point.{points}
-use Rattle.plane.specs.Forms.{edges}
 use Rattle.plane.proofs.theory.lists.Flat.{points-length}
-use Rattle.sums.specs.Advance.{next_corners, Walked}
 use Rattle.calipers.specs.Image.{image}
 use Rattle.calipers.specs.Walk.{begun}
 use Rattle.calipers.specs.theory.Carry.{first_next, edges_fit}

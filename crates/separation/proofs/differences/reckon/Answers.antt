@@ -1,9 +1,5 @@
 -- `reckon` meets its contract: the corners of both shapes together bound those of the differences, or these are counted.
 use native.Mathlib.Omega.{arith}
-use Prim.Native.Nat.{◌+◌, ◌≤◌}
-use borrow.Author.Rules.{rules}
-use lib.ListN.{length}
-use Rattle.plane.specs.Point.{points}
 use Rattle.plane.proofs.theory.lists.Flat.{points-length}
 use Rattle.sums.specs.Size.{exact, enough}
 use Rattle.separation.specs.theory.Image.{differences-few}

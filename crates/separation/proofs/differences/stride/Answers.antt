@@ -1,6 +1,6 @@
 -- `stride` meets its contract. The invariant: `count` corners are written, and the walk with these two sides is as far, not over, and may
 -- write more; the measure is what is left to write.
-use Prim.Native.Nat.{◌+◌, ◌-◌, ◌<◌}
+use Prim.Native.Nat.{◌+◌, ◌<◌}
 use native.Mathlib.Omega.{arith}
 use lib.ListN.{length}
 use mir.Syntax.{w64}
@@ -8,14 +8,13 @@ use Rattle.integer.specs.Machine.{result-is}
 use Rattle.plane.specs.Point.{points}
 use Rattle.plane.proofs.theory.lists.Flat.{points-length}
 use Rattle.plane.proofs.theory.sum.Positions.{edges-at-most}
-use Rattle.sums.specs.Advance.{next_corners}
 use Rattle.calipers.specs.Image.{image}
 use Rattle.calipers.specs.Walk.{begun}
 use Rattle.calipers.specs.theory.Carry.{first_next, corners-fit, edges_fit}
 use Rattle.calipers.specs.theory.Image.{image-count, image-edges}
 use Rattle.sums.specs.theory.Summed.{next-few}
 use Rattle.sums.proofs.Walked.{walked_at, walked-below, walked-inside}
-use Rattle.sums.proofs.Progress.{Progress, progress_start, progress-part, progress-room, progress-length, progress-more}
+use Rattle.sums.proofs.Progress.{progress_start, progress-part, progress-room, progress-length, progress-more}
 use Rattle.separation.specs.Differences.{enough}
 use Rattle.separation.specs.theory.Image.{image-begun}
 use Rattle.separation.proofs.differences.stride.Goals as goal

@@ -1,16 +1,14 @@
 -- `write` meets its contract. The invariant: if `count` corners were written when the loop began, now these are, and the walk with these
 -- two sides is as far and not over; the measure is what is left to write.
-use mathlib.Core.Path.{◌≡◌, refl, sym, ◌∙◌, ap}
+use mathlib.Core.Path.{refl, sym, ◌∙◌, ap}
 use mathlib.Core.Bool.{true}
 use mathlib.Core.List.{List}
-use Prim.Native.Nat.{◌+◌, ◌-◌, ◌*◌, ◌≤◌, ◌<◌}
+use Prim.Native.Nat.{◌+◌, ◌*◌, ◌≤◌, ◌<◌}
 use native.Mathlib.Omega.{arith}
-use lib.IntN.{ℤ}
 use lib.ListN.{length}
 use mir.Syntax.{w64}
 use Rattle.integer.specs.Machine.{result-is}
 use Rattle.plane.specs.Point.{Point, points, numbers}
-use Rattle.plane.specs.Forms.{edges}
 use Rattle.plane.proofs.theory.lists.Flat.{points-length}
 use Rattle.sums.specs.Advance.{next_corners}
 use Rattle.calipers.specs.Image.{image}

@@ -1,16 +1,10 @@
 -- `alone` meets its contract. The invariant is what it promises; the measure: the edges that are left.
 use mathlib.Core.Path.{◌∙◌}
-use Prim.Native.Nat.{◌-◌}
 use native.Mathlib.Omega.{arith}
 use mir.Syntax.{w64}
-use lib.ListN.{length}
 use Rattle.integer.specs.Machine.{result-is}
-use Rattle.plane.specs.Point.{points}
-use Rattle.plane.specs.Forms.{edges}
 use Rattle.polygon.specs.theory.Small.{small-wide}
-use Rattle.calipers.specs.Image.{image}
 use Rattle.calipers.specs.theory.Carry.{sides-here, here-near, corners-fit, edges_fit}
-use Rattle.separation.specs.Passing.{Strode}
 use Rattle.separation.specs.theory.Image.{image-few}
 use Rattle.separation.proofs.Striding.{strode-at, strode-alone, goes_on}
 use Rattle.separation.proofs.stride.alone.Goals as goal

@@ -1,9 +1,7 @@
 -- `stride` meets its contract. The invariant is what it promises, with three edges left of both shapes; the measure: the edges that are
 -- left.
 use mathlib.Core.Path.{◌∙◌, ap}
-use mathlib.Core.Logic.{inl, inr}
 use Prim.Native.Nat.{ℕ, ◌+◌, ◌-◌, ◌^◌, ◌<◌}
-use borrow.Author.Tests.{not-false}
 use native.Mathlib.Omega.{arith}
 use lib.ListN.{length}
 use mir.Syntax.{w64}

@@ -2,7 +2,7 @@
 -- that are left.
 use mathlib.Core.Bool.{Bool, true, false}
 use mathlib.Core.Path.{◌≡◌, sym, ◌∙◌, ap}
-use Prim.Native.Nat.{◌+◌, ◌-◌, ◌^◌, ◌<◌}
+use Prim.Native.Nat.{◌^◌, ◌<◌}
 use native.Mathlib.Omega.{arith}
 use lib.IntN.{ℤ, pos}
 use lib.ListN.{length}
@@ -11,10 +11,9 @@ use mir.Syntax.{w64}
 use mir.Val.{hbits, to_z, of_z}
 use Rattle.integer.specs.Machine.{result-is}
 use Rattle.plane.specs.Point.{points}
-use Rattle.plane.specs.Forms.{edges}
 use Rattle.plane.proofs.theory.lists.Sought.{true-not-false}
 use Rattle.calipers.specs.theory.Carry.{first_next, second-next, corners-fit, edges_fit}
-use Rattle.separation.proofs.Beside.{Beside, beside-start, is_right, beside-right, beside-more, beside-less, beside-all}
+use Rattle.separation.proofs.Beside.{beside-start, is_right, beside-right, beside-more, beside-less, beside-all}
 use Rattle.separation.proofs.within.in_polygon.Goals as goal
 use Rattle.separation.proofs.within.in_polygon.Goals.{In-loop-t, Joined-c-le0, then-c-le0+else-turn-lt0, else-c-le0}
 

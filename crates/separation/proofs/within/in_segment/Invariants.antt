@@ -1,16 +1,10 @@
 use mathlib.Core.Bool.{true}
 use mathlib.Core.List.{[], ◌∷◌}
-use mathlib.Core.Path.{◌≡◌, sym, ◌∙◌, ap}
+use mathlib.Core.Path.{◌≡◌}
 use Prim.Native.Nat.{ℕ, ◌-◌, ◌≤◌, ◌<◌}
-use native.Mathlib.Omega.{arith}
-use borrow.Author.Count.{below_more}
-use borrow.Author.Tests.{not-true, not-false}
-use lib.ListN.{length}
-use Rattle.plane.specs.Point.{Point, points, corner}
+use Rattle.plane.specs.Point.{points, corner}
 use Rattle.plane.specs.Separation.{inside}
 use Rattle.polygon.specs.Point.{at}
-use Rattle.polygon.specs.theory.Small.{small-corner}
-use Rattle.separation.specs.theory.Within.{corners-inside, corner-outside}
 use Rattle.separation.proofs.within.in_segment.Given as goal
 
 abbrev pub invariant-loop-i : goal.invariant-loop-i

@@ -1,11 +1,10 @@
 -- `copy_outer` meets its contract. The invariant: of the points before i those that are not inside are held; the measure is what is left.
-use Prim.Native.Nat.{◌-◌, ◌<◌}
+use Prim.Native.Nat.{◌<◌}
 use native.Mathlib.Omega.{arith}
-use borrow.Author.Rules.{rules}
 use lib.ListN.{length}
 use Rattle.plane.specs.Point.{points}
 use Rattle.plane.proofs.theory.lists.Flat.{points-length}
-use Rattle.sorting.specs.theory.Interior.{Sifting, sift-start, sift-room, sift-one, sift-end}
+use Rattle.sorting.specs.theory.Interior.{sift-start, sift-room, sift-one, sift-end}
 use Rattle.sorting.proofs.interior.copy_outer.Goals as goal
 use Rattle.sorting.proofs.interior.copy_outer.Goals.{In-loop-i}
 

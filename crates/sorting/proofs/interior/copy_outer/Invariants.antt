@@ -1,10 +1,6 @@
-use Prim.Native.Nat.{◌-◌, ◌<◌}
-use native.Mathlib.Omega.{arith}
-use borrow.Author.Rules.{rules}
-use lib.ListN.{length}
+use Prim.Native.Nat.{◌-◌}
 use Rattle.plane.specs.Point.{points}
-use Rattle.plane.proofs.theory.lists.Flat.{points-length}
-use Rattle.sorting.specs.theory.Interior.{Sifting, sift-start, sift-room, sift-one, sift-end}
+use Rattle.sorting.specs.theory.Interior.{Sifting}
 use Rattle.sorting.proofs.interior.copy_outer.Given as goal
 
 abbrev pub invariant-loop-i : goal.invariant-loop-i

@@ -1,5 +1,4 @@
 -- `further` meets its contract: the position is one of the two.
-use borrow.Author.Rules.{rules}
 use lib.Signed.{lt_z}
 use mir.Syntax.{w32}
 use mir.Val.{to_z, of_z}

@@ -1,7 +1,6 @@
 -- `inner_rectangle` meets its contract: each side lies no further out than two of the four points.
 use mathlib.Core.Path.{refl, sym, subst}
 use Prim.Native.Nat.{◌^◌, ◌<◌}
-use borrow.Author.Rules.{rules}
 use lib.IntN.{ℤ}
 use lib.Signed.{◌≤ℤ◌, mag}
 use mir.Syntax.{w32}

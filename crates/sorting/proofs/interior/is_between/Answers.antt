@@ -1,6 +1,6 @@
 -- `is_between` meets its contract.
 use mir.Syntax.{w32}
-use mathlib.Core.Path.{◌≡◌, sym, ◌∙◌, ap, ap₂}
+use mathlib.Core.Path.{sym, ◌∙◌, ap, ap₂}
 use mathlib.Core.Bool.{Bool, ◌&&◌}
 use lib.Signed.{lt_z}
 use mir.Facts.{to_z-of_z}

@@ -1,7 +1,6 @@
 -- `is_inside` meets its contract: between both pairs of sides.
 use mathlib.Core.Path.{◌≡◌, refl, sym, ◌∙◌, ap, ap₂}
 use mathlib.Core.Bool.{Bool, ◌&&◌}
-use borrow.Author.Rules.{rules}
 use lib.Signed.{lt_z}
 use mir.Syntax.{w32}
 use Rattle.integer.specs.Machine.{result-is}

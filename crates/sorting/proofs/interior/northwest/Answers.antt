@@ -1,5 +1,4 @@
 -- `northwest` meets its contract: small parts, and what comes of them, fit 32 bits.
-use borrow.Author.Rules.{rules}
 use Rattle.integer.specs.Machine.{machine, bounded, machine-fits}
 use Rattle.sorting.proofs.interior.northwest.Goals as goal
 

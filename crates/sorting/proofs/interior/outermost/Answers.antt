@@ -1,11 +1,9 @@
 -- `outermost` meets its contract. The invariant: the four positions are of the list; the measure is what is left.
 use mathlib.Core.Path.{◌≡◌}
-use Prim.Native.Nat.{ℕ, ◌-◌, ◌^◌, ◌<◌}
+use Prim.Native.Nat.{ℕ, ◌^◌, ◌<◌}
 use native.Mathlib.Omega.{arith}
-use borrow.Author.Rules.{rules}
 use lib.ListN.{length}
 use Rattle.plane.specs.Point.{Point, points, corner}
-use Rattle.plane.proofs.theory.lists.Flat.{points-length}
 use Rattle.polygon.specs.Point.{at, Small}
 use Rattle.polygon.specs.theory.Small.{small-corner}
 use Rattle.sorting.proofs.interior.outermost.Goals as goal

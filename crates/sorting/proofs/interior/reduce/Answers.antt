@@ -1,6 +1,4 @@
 -- `reduce` meets its contract: the set reaches past each corner of the rectangle, so what is copied has its shape.
-use borrow.Author.Rules.{rules}
-use Rattle.plane.specs.Point.{points}
 use Rattle.sorting.specs.theory.Interior.{outer-reduced}
 use Rattle.sorting.proofs.interior.reduce.Goals as goal
 

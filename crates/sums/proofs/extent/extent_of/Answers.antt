@@ -1,5 +1,4 @@
 -- `extent_of` meets its contract: both ways say the same.
-use borrow.Author.Rules.{rules}
 use Rattle.sums.proofs.extent.extent_of.Goals as goal
 
 pub extent_of-requires : goal.extent_of-requires

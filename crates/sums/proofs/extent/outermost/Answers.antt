@@ -1,7 +1,6 @@
 -- `outermost` meets its contract: the corners at which they cease to go up, right and left are the outermost.
 use mathlib.Core.Path.{sym, ◌∙◌, ap, ap₂, subst}
 use Prim.Native.Nat.{ℕ, ◌-◌, ◌^◌}
-use borrow.Author.Rules.{rules}
 use lib.ListN.{length}
 use Rattle.plane.specs.Point.{points, corner, opposite}
 use Rattle.polygon.specs.Point.{Small}

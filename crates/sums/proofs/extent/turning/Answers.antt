@@ -1,19 +1,14 @@
 -- `turning` meets its contract. The invariant: the corner before `low` goes on to it, and that at `high` does not; the measure is what is
 -- between them.
 use mathlib.Core.Path.{◌≡◌, sym, ◌∙◌, subst}
-use mathlib.Core.List.{List}
-use Prim.Native.Nat.{ℕ, suc, ◌+◌, ◌-◌, ◌/◌, ◌≤◌, ◌<◌}
+use Prim.Native.Nat.{ℕ, ◌+◌, ◌-◌, ◌/◌, ◌<◌}
 use native.Mathlib.Omega.{arith}
-use lib.ListN.{length}
-use lib.Signed.{◌≤ℤ◌, ◌<ℤ◌}
 use Rattle.integer.specs.Order.{le_z-true, le_z-false}
-use Rattle.plane.specs.Point.{Point, points, corner}
-use Rattle.plane.specs.Shape.{next}
-use Rattle.plane.specs.Direction.{value}
+use Rattle.plane.specs.Point.{points}
 use Rattle.polygon.specs.Point.{at}
 use Rattle.sums.proofs.extent.turning.Goals as goal
 use Rattle.sums.proofs.extent.turning.Goals.{In-loop-low}
-use Rattle.sums.proofs.extent.turning.Invariants.{GoesOn, Stops, Halved}
+use Rattle.sums.proofs.extent.turning.Invariants.{GoesOn, Stops}
 
 pub loop-low-init : goal.loop-low-init
 loop-low-init c = record {

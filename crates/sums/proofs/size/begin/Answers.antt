@@ -1,6 +1,5 @@
 -- `begin` meets its contract: nothing is counted yet, or `skim` has counted.
 use mathlib.Core.Path.{refl}
-use borrow.Author.Rules.{rules}
 use Rattle.sums.specs.Advance.{side_of}
 use Rattle.sums.proofs.Walked.{side_of-carried, walked_start}
 use Rattle.sums.proofs.size.begin.Goals as goal

@@ -2,7 +2,7 @@
 -- measure is what is left to count.
 use mathlib.Core.Path.{◌≡◌, sym, ◌∙◌}
 use mathlib.Core.Bool.{false}
-use Prim.Native.Nat.{◌+◌, ◌-◌}
+use Prim.Native.Nat.{◌+◌}
 use native.Mathlib.Omega.{arith}
 use lib.ListN.{length}
 use mir.Syntax.{w64}
@@ -10,7 +10,7 @@ use Rattle.integer.specs.Machine.{result-is}
 use Rattle.plane.specs.Point.{points}
 use Rattle.plane.specs.Forms.{edges}
 use Rattle.plane.proofs.theory.lists.Flat.{points-length}
-use Rattle.sums.specs.Advance.{state, next_corners, Walked}
+use Rattle.sums.specs.Advance.{state}
 use Rattle.calipers.specs.theory.Carry.{first_next, second-next, edges_fit}
 use Rattle.sums.specs.theory.Summed.{next-few}
 use Rattle.sums.proofs.Walked.{edges-sum, all_edges, walked-with, walked_at, walked-below, walked_more, walked-spent, walked-over}

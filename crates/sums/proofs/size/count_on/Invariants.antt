@@ -1,17 +1,7 @@
-use mathlib.Core.Path.{◌≡◌, sym, ◌∙◌}
 use mathlib.Core.Bool.{false}
-use Prim.Native.Nat.{◌+◌, ◌-◌}
-use native.Mathlib.Omega.{arith}
+use Prim.Native.Nat.{◌-◌}
 use lib.ListN.{length}
-use mir.Syntax.{w64}
-use Rattle.integer.specs.Machine.{result-is}
-use Rattle.plane.specs.Point.{points}
-use Rattle.plane.specs.Forms.{edges}
-use Rattle.plane.proofs.theory.lists.Flat.{points-length}
 use Rattle.sums.specs.Advance.{state, next_corners, Walked}
-use Rattle.calipers.specs.theory.Carry.{first_next, second-next, edges_fit}
-use Rattle.sums.specs.theory.Summed.{next-few}
-use Rattle.sums.proofs.Walked.{edges-sum, all_edges, walked-with, walked_at, walked-below, walked_more, walked-spent, walked-over}
 use Rattle.sums.proofs.size.count_on.Given as goal
 
 abbrev pub invariant-loop-s : goal.invariant-loop-s

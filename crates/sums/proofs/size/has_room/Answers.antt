@@ -2,7 +2,6 @@
 use mathlib.Core.Bool.{false, true≢false}
 use Prim.Native.Nat.{◌/◌}
 use native.Mathlib.Omega.{arith}
-use borrow.Author.Rules.{rules}
 use borrow.Author.Tests.{leb-true, leb-false}
 use Rattle.plane.proofs.theory.lists.Flat.{points-length}
 use Rattle.sums.specs.Advance.{state}

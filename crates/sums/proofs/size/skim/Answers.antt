@@ -3,7 +3,7 @@
 use mathlib.Core.Path.{◌≡◌, refl, sym, ◌∙◌, ap, ap₂}
 use mathlib.Core.Bool.{Bool, true, false, cond}
 use mathlib.Core.List.{List}
-use Prim.Native.Nat.{ℕ, ◌+◌, ◌-◌, ◌^◌, ◌≤◌, ◌<◌}
+use Prim.Native.Nat.{ℕ, ◌+◌, ◌^◌, ◌≤◌, ◌<◌}
 use native.Mathlib.Omega.{arith}
 use lib.IntN.{ℤ, pos}
 use lib.ListN.{length}
@@ -21,7 +21,7 @@ use Rattle.polygon.specs.Point.{Small}
 use Rattle.polygon.specs.theory.Small.{small-step, small-corner}
 use Rattle.calipers.specs.Side.{onward, Carried}
 use Rattle.calipers.specs.theory.Sides.{onward-inner, edge-inner}
-use Rattle.sums.specs.Advance.{state, side_of, next_corners, Walked}
+use Rattle.sums.specs.Advance.{state, side_of}
 use Rattle.sums.specs.theory.Summed.{next-few}
 use Rattle.sums.proofs.Walked.{side_of-carried, walked_start, walked-below, walked-inside}
 use Rattle.sums.proofs.size.skim.Goals as goal

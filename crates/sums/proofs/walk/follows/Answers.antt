@@ -1,7 +1,6 @@
 -- `follows` meets its contract: no edge is passed, or none is next, or two sides compare them.
 use mathlib.Core.Path.{sym, ◌∙◌, ap, ap₂}
 use native.Mathlib.Omega.{arith}
-use borrow.Author.Rules.{rules}
 use borrow.Author.Tests.{eq-eqb, ne_eqb}
 use Rattle.plane.specs.Point.{points, corner}
 use Rattle.plane.specs.Forms.{before, edges}

@@ -1,6 +1,5 @@
 -- `inside` meets its contract.
 use mathlib.Core.Bool.{false≢true}
-use borrow.Author.Rules.{rules}
 use Rattle.sums.proofs.walk.inside.Goals as goal
 
 pub returns-then-m-i : goal.returns-then-m-i

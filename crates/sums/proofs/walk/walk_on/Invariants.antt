@@ -1,22 +1,10 @@
-use mathlib.Core.Path.{◌≡◌, refl, sym, ◌∙◌, subst}
 use mathlib.Core.Bool.{false}
 use mathlib.Core.List.{List}
-use Prim.Native.Nat.{◌+◌, ◌-◌, ◌*◌, ◌≤◌}
-use native.Mathlib.Omega.{arith}
-use borrow.Author.Rules.{rules}
+use Prim.Native.Nat.{◌-◌}
 use lib.IntN.{ℤ}
 use lib.ListN.{length}
-use mir.Syntax.{w64}
-use Rattle.integer.specs.Machine.{result-is}
-use Rattle.plane.specs.Point.{points}
-use Rattle.plane.specs.Forms.{edges}
-use Rattle.calipers.specs.Walk.{Walk, At}
-use Rattle.calipers.specs.Side.{walk_of}
 use Rattle.sums.specs.Advance.{state, next_corners}
-use Rattle.calipers.specs.theory.Carry.{sides-walk, first_next, second-next, corners-fit, edges_fit}
-use Rattle.sums.proofs.Walked.{edges-sum, all_edges, walked_start, walked_at, walked-below, walked_more, walked-spent, walked-over}
-use Rattle.sums.proofs.Progress.{Progress, part-progress, progress-room, progress-length}
-use Rattle.sums.proofs.Progress.{progress-kept, progress-more, progress-done}
+use Rattle.sums.proofs.Progress.{Progress}
 use Rattle.sums.proofs.walk.walk_on.Given as goal
 
 abbrev pub invariant-loop-s : goal.invariant-loop-s

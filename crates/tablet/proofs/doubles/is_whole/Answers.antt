@@ -1,5 +1,5 @@
 -- `is_whole` meets its contract: below 2^53 the whole part is a double exactly, and above it every double is whole.
-use Rattle.std.proofs.Common.{ap, ◌∙◌, w64, rules}
+use Rattle.std.proofs.Common.{ap, ◌∙◌, w64}
 use lib.Ieee.{Float, binary64, of_bits, neg, eq, of_int}
 use Rattle.integer.specs.Machine.{result-is}
 use Rattle.tablet.proofs.theory.Tested.{cuttable, whole-tested, large-high, large-low}

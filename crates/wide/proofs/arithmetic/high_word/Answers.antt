@@ -1,5 +1,4 @@
 -- `high_word` meets its contract: the sum of the low words wraps where it is less than what was added.
-use Rattle.std.proofs.Common.{rules}
 use Rattle.wide.specs.theory.Carry.{high-kept, high-raised, high-room}
 use Rattle.wide.proofs.arithmetic.high_word.Goals as goal
 

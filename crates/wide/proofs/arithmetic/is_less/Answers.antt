@@ -1,6 +1,5 @@
 -- `is_less` meets its contract. The invariant: from word i on the numbers agree; the measure is i.
-use Rattle.std.proofs.Common.{◌≡◌, ◌≤◌, length, drop, arith, rules}
-use Rattle.wide.specs.Value.{value}
+use Rattle.std.proofs.Common.{arith}
 use Rattle.wide.specs.theory.Compare.{above-none, word-agrees, word-decides, none_below}
 use Rattle.wide.proofs.arithmetic.is_less.Goals as goal
 

@@ -1,6 +1,5 @@
-use Rattle.std.proofs.Common.{◌≡◌, ◌≤◌, length, drop, arith, rules}
+use Rattle.std.proofs.Common.{◌≡◌, ◌≤◌, length, drop}
 use Rattle.wide.specs.Value.{value}
-use Rattle.wide.specs.theory.Compare.{above-none, word-agrees, word-decides, none_below}
 use Rattle.wide.proofs.arithmetic.is_less.Given as goal
 
 abbrev pub invariant-loop-i : goal.invariant-loop-i

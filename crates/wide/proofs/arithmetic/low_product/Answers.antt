@@ -1,5 +1,5 @@
 -- `low_product` meets its contract: each product of halves fits, and what passes the word is dropped.
-use Rattle.std.proofs.Common.{◌∙◌, arith, rules}
+use Rattle.std.proofs.Common.{◌∙◌, arith}
 use Rattle.wide.specs.theory.Halves.{halves-fit, low-by-halves}
 use Rattle.wide.proofs.arithmetic.low_product.Goals as goal
 

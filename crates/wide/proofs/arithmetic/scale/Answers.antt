@@ -1,7 +1,7 @@
 -- `scale` meets its contract. The invariant: the first i words and the carry make w times the first i words of a; the measure is what is
 -- left of a.
-use Rattle.std.proofs.Common.{◌-◌, length, arith, length-set, rules}
-use Rattle.wide.specs.theory.Carry.{Scaling, scaling-start, scaling-more, scaling-end}
+use Rattle.std.proofs.Common.{arith, length-set}
+use Rattle.wide.specs.theory.Carry.{scaling-start, scaling-more, scaling-end}
 use Rattle.wide.proofs.arithmetic.scale.Goals as goal
 
 pub loop-i-init : goal.loop-i-init

@@ -1,5 +1,5 @@
-use Rattle.std.proofs.Common.{◌-◌, length, arith, length-set, rules}
-use Rattle.wide.specs.theory.Carry.{Scaling, scaling-start, scaling-more, scaling-end}
+use Rattle.std.proofs.Common.{◌-◌, length}
+use Rattle.wide.specs.theory.Carry.{Scaling}
 use Rattle.wide.proofs.arithmetic.scale.Given as goal
 
 abbrev pub invariant-loop-i : goal.invariant-loop-i
