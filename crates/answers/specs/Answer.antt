@@ -7,50 +7,27 @@ use Rattle.tablet.specs.Reading.{Sent}
 use Rattle.clearance.specs.Answer.{values_of}
 pub use Rattle.admission.specs.Answer.{of_refusal, of_answer}
 use Rattle.answers.specs.declared.Furthest.{Furthest}
-use Rattle.answers.specs.declared.Furthest.TheVariants as Furthest
 use Rattle.answers.specs.declared.Length.{Length}
-use Rattle.answers.specs.declared.Length.TheVariants as Length
 use Rattle.answers.specs.declared.Area.{Area}
-use Rattle.answers.specs.declared.Area.TheVariants as Area
 use Rattle.answers.specs.declared.Width.{Width}
-use Rattle.answers.specs.declared.Width.TheVariants as Width
 use Rattle.answers.specs.declared.LeastBox.{LeastBox}
-use Rattle.answers.specs.declared.LeastBox.TheVariants as LeastBox
 use Rattle.answers.specs.declared.Relation.{Relation}
-use Rattle.answers.specs.declared.Relation.TheVariants as Relation
 use Rattle.answers.specs.declared.Inside.{Inside}
-use Rattle.answers.specs.declared.Inside.TheVariants as Inside
 use Rattle.answers.specs.declared.Offer.{Offer}
-use Rattle.answers.specs.declared.Offer.TheVariants as Offer
 use Rattle.answers.specs.declared.Separator.{Separator}
-use Rattle.answers.specs.declared.Separator.TheVariants as Separator
 use Rattle.answers.specs.declared.Clearance.{Clearance}
-use Rattle.answers.specs.declared.Clearance.TheVariants as Clearance
 use Rattle.answers.specs.declared.Greatest.{Greatest}
-use Rattle.answers.specs.declared.Greatest.TheVariants as Greatest
 use Rattle.answers.specs.declared.Nearest.{Nearest}
-use Rattle.answers.specs.declared.Nearest.TheVariants as Nearest
 use Rattle.answers.specs.declared.Gap.{Gap}
-use Rattle.answers.specs.declared.Gap.TheVariants as Gap
 use Rattle.answers.specs.declared.Excess.{Excess}
-use Rattle.answers.specs.declared.Excess.TheVariants as Excess
 use Rattle.answers.specs.declared.Contact.{Contact}
-use Rattle.answers.specs.declared.Contact.TheVariants as Contact
 use Rattle.answers.specs.declared.Drive.{Drive}
-use Rattle.answers.specs.declared.Drive.TheVariants as Drive
 use Rattle.answers.specs.declared.Passage.{Passage}
-use Rattle.answers.specs.declared.Passage.TheVariants as Passage
-use Rattle.answers.specs.declared.Line.{Line}
 use Rattle.answers.specs.declared.Tangents.{Tangents}
-use Rattle.answers.specs.declared.Tangents.TheVariants as Tangents
 use Rattle.answers.specs.declared.Unread.{Unread}
-use Rattle.answers.specs.declared.Unread.TheVariants as Unread
 use Rattle.answers.specs.declared.Tablet.{Tablet}
-use Rattle.answers.specs.declared.Tablet.TheVariants as Tablet
 use Rattle.answers.specs.declared.Addition.{Addition}
-use Rattle.answers.specs.declared.Addition.TheVariants as Addition
 use Rattle.answers.specs.declared.Entry.{Entry}
-use Rattle.answers.specs.declared.Entry.TheVariants as Entry
 
 abbrev pub of_furthest : Furthest → Reply
 of_furthest (Furthest.At first last value floor) = answered (pos first ∷ pos last ∷ value ∷ pos floor ∷ [])

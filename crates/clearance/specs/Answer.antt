@@ -10,12 +10,9 @@ use Rattle.plane.specs.Measure.{squared, edge_squared, root_below}
 use Rattle.plane.specs.Separation.{apart}
 use Rattle.plane.specs.Clearance.{Candidate, corners, on_second, on_first, nearest, numbers_of}
 use Rattle.clearance.specs.declared.reach.Pair.{Pair}
-use Rattle.clearance.specs.declared.reach.Pair.TheVariants as Pair
 use Rattle.clearance.specs.declared.measured.Distance.{Distance}
-use Rattle.clearance.specs.declared.measured.Distance.TheVariants as Distance
 use Rattle.clearance.specs.declared.measured.Height.{Height}
 use Rattle.clearance.specs.declared.Spacing.{Spacing}
-use Rattle.clearance.specs.declared.Spacing.TheVariants as Spacing
 
 abbrev pub candidate_of : Pair → Candidate
 candidate_of (Pair.Corners i j) = corners i j

@@ -6,9 +6,7 @@ use Rattle.parts.specs.Part.{walk_numbers}
 use Rattle.admission.specs.Answer.{of_refusal}
 use Rattle.part_questions.specs.Walk.{state_of}
 use Rattle.part_questions.specs.declared.answer.Begun.{Begun}
-use Rattle.part_questions.specs.declared.answer.Begun.TheVariants as Begun
 use Rattle.part_questions.specs.declared.answer.Part.{Part}
-use Rattle.part_questions.specs.declared.answer.Part.TheVariants as Part
 
 -- the edges passed of either shape, and 1 if the walk is over; a part has before them the count of its corners
 abbrev pub of_begun : Begun → Reply

@@ -7,7 +7,6 @@ use Rattle.tablet.specs.declared.reading.Read.TheVariants.{Whole}
 use Rattle.admission.specs.Admission.{Refuses}
 use Rattle.answers.specs.Answer.{of_unread}
 use Rattle.tablet_questions.specs.declared.coordinate.Coordinate.{Coordinate}
-use Rattle.tablet_questions.specs.declared.coordinate.Coordinate.TheVariants as Coordinate
 
 abbrev pub Coordinated : ℕ → Reading → Coordinate → Type 0
 Coordinated part x (Coordinate.Whole n) = read_as x ≡ Whole n

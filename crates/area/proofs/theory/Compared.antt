@@ -5,7 +5,7 @@
 --     merged-first, merged-second   a merge has at least the area of each of its shapes
 --     crosses-append, area-turned   the corners may be begun anywhere
 --     mirrored-area, moved-area     mirroring and moving change nothing
-use Rattle.std.specs.Prelude.{◌≡◌, refl, Bool, true, false, List, [], ◌∷◌, ◌++◌, map, ℕ, suc, ◌<◌, ◌≤◌, ℤ, pos, neg_ℤ, ◌+ℤ◌, ◌-ℤ◌, length}
+use Rattle.std.specs.Prelude.{◌≡◌, refl, Bool, true, false, List, [], ◌∷◌, ◌++◌, map, ℕ, ◌<◌, ◌≤◌, pos, ◌+ℤ◌, length}
 use Rattle.std.specs.Prelude.{take, drop, ltb, ◌≤ℤ◌, ◌<ℤ◌}
 use Rattle.std.proofs.Common.{sym, ◌∙◌, ap, ap₂, subst, append-nil, arith, length-append, take-append-drop, ltb-true, ltb-false}
 use mathlib.Core.List.Memᴰ
@@ -20,7 +20,7 @@ use Rattle.plane.specs.Direction.{value, support}
 use Rattle.plane.specs.Corner.{shape_of, mirrored}
 use Rattle.plane.specs.Separation.{inside}
 use Rattle.plane.specs.Cut.{outward}
-use Rattle.plane.specs.Forms.{All, Pairs, Triples, edges}
+use Rattle.plane.specs.Forms.{All, Pairs, edges}
 use Rattle.plane.proofs.theory.lists.Members.{point-path}
 use Rattle.plane.proofs.theory.forms.Vector.{cross-opposite, cross-self, cross-swap}
 use Rattle.plane.proofs.theory.forms.Standard.{all-at, shape→ordered}
@@ -32,7 +32,7 @@ use Rattle.separation.specs.theory.Inside.{inside→reach, reach→inside, insid
 use Rattle.separation.specs.theory.InsideShape.{each→inside, polygon-left→inside}
 use Rattle.separation.specs.theory.Sector.{value-outward, edge-outermost}
 use Rattle.area.specs.Area.{crosses_to, twice_area}
-use Rattle.area.proofs.theory.Sums.{sum_of, sum_of-le, sum_of-tight}
+use Rattle.area.proofs.theory.Sums.{sum_of-le, sum_of-tight}
 use Rattle.area.proofs.theory.Mixed.{right, mixed, area-mixed, mixed-symmetric}
 
 -- ---- a fan of triangles about the first corner

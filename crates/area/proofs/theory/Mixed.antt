@@ -7,8 +7,8 @@
 --     both-symmetric          closed lists of edges may be exchanged
 --     area-mixed              twice the area of a shape is its mixed area with itself
 --     mixed-symmetric         the mixed area of two shapes is symmetric
-use Rattle.std.specs.Prelude.{◌≡◌, refl, Bool, true, false, cond, List, [], ◌∷◌, ℤ, pos, neg_ℤ, ◌+ℤ◌, ◌-ℤ◌}
-use Rattle.std.proofs.Common.{sym, ◌∙◌, ap, ap₂, subst, arith}
+use Rattle.std.specs.Prelude.{◌≡◌, refl, Bool, true, false, cond, List, [], ◌∷◌, ℤ, pos, neg_ℤ, ◌+ℤ◌}
+use Rattle.std.proofs.Common.{sym, ◌∙◌, ap, ap₂, arith}
 use Rattle.std.proofs.Math.IntN.{neg_ℤ-neg_ℤ}
 use Rattle.integer.specs.Ring.{ring, reify}
 use Rattle.integer.specs.Linear.{linear, lia, ◌&◌}
@@ -16,18 +16,18 @@ use Rattle.plane.specs.Point.{Point, point, origin, ◌⊕◌, ◌⊖◌}
 use Rattle.plane.specs.Turn.{cross}
 use Rattle.plane.specs.Shape.{IsShape}
 use Rattle.plane.specs.Direction.{value, support}
-use Rattle.plane.specs.Forms.{All, before, Before, NonZero, From, InOrder, Sorted, edges, edges_to}
+use Rattle.plane.specs.Forms.{All, before, Before, NonZero, InOrder, Sorted, edges, edges_to}
 use Rattle.plane.specs.Cut.{quarter, cut_sum}
 use Rattle.plane.proofs.theory.lists.Members.{point-path}
 use Rattle.plane.proofs.theory.forms.Vector.{total, value-cross, cross-swap, cross-self, cross-origin, step-to}
-use Rattle.plane.proofs.theory.forms.Angle.{before-irrefl, before-reversed}
+use Rattle.plane.proofs.theory.forms.Angle.{before-reversed}
 use Rattle.plane.proofs.theory.forms.SameWay.{neither-same, same-flat}
 use Rattle.plane.proofs.theory.forms.Standard.{shape→sorted}
 use Rattle.plane.proofs.theory.sum.Path.{next-in-order, total-edges}
 use Rattle.plane.proofs.theory.sum.EdgeCount.{from_all}
 use Rattle.plane.proofs.theory.sum.Cut.{cut_sum-take, cut_sum-leave, cut-formula}
 use Rattle.area.specs.Area.{crosses_to, twice_area}
-use Rattle.area.proofs.theory.Sums.{sum_of, sum_of-add, sum_of-zero, sum_of-same, sum_of-each, sum_of-swap, sum_of-cross, cross-sum_of}
+use Rattle.area.proofs.theory.Sums.{sum_of, sum_of-add, sum_of-zero, sum_of-same, sum_of-each, sum_of-swap, sum_of-cross}
 
 abbrev pub right : Point → Point
 right f = point f.y (neg_ℤ f.x)

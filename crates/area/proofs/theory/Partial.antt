@@ -4,7 +4,7 @@
 --     partial-more         one more; `partial-all`: at the last corner it is twice the area
 --     partial-within       it has at most 60 bits
 use Rattle.std.specs.Prelude.{◌≡◌, refl, List, [], ◌∷◌, ℕ, zero, suc, ◌+◌, ◌-◌, ◌*◌, ◌^◌, ◌<◌, ◌≤◌, ℤ, pos, ◌+ℤ◌, length}
-use Rattle.std.proofs.Common.{sym, ◌∙◌, ap, arith, add-one, le_trans}
+use Rattle.std.proofs.Common.{arith, add-one, le_trans}
 use Rattle.integer.specs.Ring.{ring, reify}
 use Rattle.integer.specs.Linear.{linear, lia, ◌&◌}
 use Rattle.integer.specs.Bound.{Within, within-add, within-mul, within-neg, within-widen}

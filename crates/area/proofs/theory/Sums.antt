@@ -4,12 +4,12 @@
 --     sum_of-same, sum_of-le     of equal terms, of terms that are no greater; `sum_of-tight`: equal sums of such terms have equal terms
 --     sum_of-swap               two sums may be exchanged
 --     sum_of-cross              cross products with one vector sum to that of the total
-use Rattle.std.specs.Prelude.{◌≡◌, refl, List, [], ◌∷◌, ℤ, pos, neg_ℤ, ◌+ℤ◌, ◌-ℤ◌, ◌*ℤ◌, ◌≤ℤ◌}
+use Rattle.std.specs.Prelude.{◌≡◌, refl, List, [], ◌∷◌, ℤ, pos, ◌+ℤ◌, ◌≤ℤ◌}
 use Rattle.std.proofs.Common.{sym, ◌∙◌, ap, ap₂, arith}
 use Rattle.std.specs.Int.Signed.{≤ℤ_refl}
 use Rattle.integer.specs.Ring.{ring, reify}
 use Rattle.integer.specs.Linear.{linear, lia, ◌&◌}
-use Rattle.plane.specs.Point.{Point, origin, ◌⊕◌}
+use Rattle.plane.specs.Point.{Point, ◌⊕◌}
 use Rattle.plane.specs.Turn.{cross}
 use Rattle.plane.specs.Forms.{All}
 use Rattle.plane.proofs.theory.forms.Vector.{total, cross-origin}

@@ -3,7 +3,7 @@
 --     stop-corner, stop-edge        so do the tests of a walk against the neighbours of a corner, or against one edge
 --     place-exists                  some place passes
 --     facing-exists                 so some direction faces the least distance
-use Rattle.std.specs.Prelude.{◌≡◌, refl, true, ◌⊎◌, List, [], ◌∷◌, ℕ, ◌≤◌, ◌<◌, ℤ, pos, neg_ℤ, ◌+ℤ◌, length, ◌≤ℤ◌, ◌<ℤ◌}
+use Rattle.std.specs.Prelude.{◌≡◌, refl, true, ◌⊎◌, List, [], ◌∷◌, ℕ, ◌<◌, ℤ, pos, neg_ℤ, ◌+ℤ◌, length, ◌≤ℤ◌, ◌<ℤ◌}
 use Rattle.std.proofs.Common.{sym, ◌∙◌, ap, inl, inr, arith}
 use Rattle.std.proofs.Math.Decide.{ℕ_discrete}
 use Rattle.integer.specs.Linear.{linear, lia, ◌&◌}
@@ -16,7 +16,7 @@ use Rattle.plane.specs.Corner.{shape_of}
 use Rattle.plane.specs.Separation.{differences, apart}
 use Rattle.plane.specs.Clearance.{corners}
 use Rattle.plane.proofs.theory.lists.Members.{position-member, member-position}
-use Rattle.plane.proofs.theory.lists.Next.{following, next-below, preceding}
+use Rattle.plane.proofs.theory.lists.Next.{next-below, preceding}
 use Rattle.plane.proofs.theory.forms.Vector.{cross-self, value-turned, square-positive}
 use Rattle.plane.proofs.theory.sum.Positions.{edge-turn}
 use Rattle.plane.proofs.theory.support.Support.{value-le-support, support-le}

@@ -2,7 +2,6 @@
 use mathlib.Core.Path.{◌≡◌, sym, ◌∙◌}
 use mathlib.Core.Bool.{false}
 use lib.Dec.{ltb}
-use borrow.Author.Rules.{rules}
 use Rattle.plane.specs.Limits.{max_corners}
 use Rattle.plane.specs.Reply.{here, later}
 use Rattle.admission.specs.theory.Judged.{refuses, passes, turns-away}

@@ -1,7 +1,7 @@
 -- `measure` meets its contract. The invariant: n bytes are kept up to p; the measure is what is left.
 use mathlib.Core.Path.{◌≡◌, sym, ◌∙◌, subst}
 use mathlib.Core.Bool.{true}
-use Prim.Native.Nat.{◌-◌, ◌≤◌}
+use Prim.Native.Nat.{◌≤◌}
 use native.Mathlib.Omega.{arith}
 use lib.ListN.{length, drop}
 use Rattle.journal.specs.Format.{whole}
@@ -10,7 +10,7 @@ use Rattle.journal.specs.Marks.{Marked}
 use Rattle.journal.proofs.theory.Survey.{next-inside}
 use Rattle.journal.proofs.theory.Stepping.{reached-sound}
 use Rattle.journal.proofs.theory.Marks.{marked_next}
-use Rattle.packing.specs.theory.Passes.{Measured, measured-start, measured-end, measured-kept, measured-skipped, measured-fits}
+use Rattle.packing.specs.theory.Passes.{measured-start, measured-end, measured-kept, measured-skipped, measured-fits}
 use Rattle.packing.proofs.measure.Goals as goal
 use Rattle.packing.proofs.measure.Goals.{After-next_at-next, In-loop-next}
 

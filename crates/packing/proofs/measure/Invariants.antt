@@ -1,15 +1,7 @@
-use mathlib.Core.Path.{◌≡◌, sym, ◌∙◌, subst}
-use mathlib.Core.Bool.{true}
-use Prim.Native.Nat.{◌-◌, ◌≤◌}
-use native.Mathlib.Omega.{arith}
-use lib.ListN.{length, drop}
-use Rattle.journal.specs.Format.{whole}
-use Rattle.journal.specs.Survey.{next_at}
+use Prim.Native.Nat.{◌-◌}
+use lib.ListN.{length}
 use Rattle.journal.specs.Marks.{Marked}
-use Rattle.journal.proofs.theory.Survey.{next-inside}
-use Rattle.journal.proofs.theory.Stepping.{reached-sound}
-use Rattle.journal.proofs.theory.Marks.{marked_next}
-use Rattle.packing.specs.theory.Passes.{Measured, measured-start, measured-end, measured-kept, measured-skipped, measured-fits}
+use Rattle.packing.specs.theory.Passes.{Measured}
 use Rattle.packing.proofs.measure.Given as goal
 
 abbrev pub invariant-loop-next : goal.invariant-loop-next

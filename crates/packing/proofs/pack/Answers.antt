@@ -1,6 +1,5 @@
 -- `pack` meets its contract: with a table of all places or with none.
 use mathlib.Core.Path.{refl}
-use borrow.Author.Rules.{rules}
 use Rattle.journal.proofs.theory.Marks.{marked_empty}
 use Rattle.packing.proofs.pack.Goals as goal
 

@@ -14,7 +14,7 @@ use Rattle.plane.specs.Cycle.{round, turned}
 use Rattle.plane.specs.Measure.{squared}
 use Rattle.plane.proofs.theory.forms.Squared.{squared-nonneg}
 use Rattle.plane.proofs.theory.sum.Positions.{edges-at-most}
-use Rattle.polygon.specs.Point.{at, Small}
+use Rattle.polygon.specs.Point.{Small}
 use Rattle.calipers.specs.Image.{image}
 use Rattle.calipers.specs.theory.Image.{image-count, image-valid}
 use Rattle.calipers.specs.theory.Sides.{corner-fits}

@@ -6,7 +6,6 @@ use Rattle.plane.specs.Reply.{answered}
 use Rattle.part_questions.specs.Answer.{of_begun}
 use Rattle.wire.specs.theory.Bits.{told}
 use Rattle.wire.specs.Told.{crossed}
-use borrow.Author.Rules.{rules}
 use Rattle.reply.proofs.of_begun.Goals as goal
 
 pub returns-in-At : goal.returns-in-At

@@ -7,7 +7,6 @@ use Rattle.plane.specs.Reply.{Reply, answered}
 use Rattle.clearance.specs.declared.measured.Distance.{Distance}
 use Rattle.clearance.specs.Answer.{values_of}
 use Rattle.wire.specs.theory.Bits.{told}
-use borrow.Author.Rules.{rules}
 use Rattle.reply.proofs.of_distance.Goals as goal
 
 abbrev numbers_of : ℕ → Distance → Reply

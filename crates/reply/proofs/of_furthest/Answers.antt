@@ -8,7 +8,6 @@ use Rattle.plane.specs.Reply.{answered}
 use Rattle.answers.specs.Answer.{of_furthest}
 use Rattle.wire.specs.theory.Bits.{told, kept-bits}
 use Rattle.wire.specs.Told.{crossed}
-use borrow.Author.Rules.{rules}
 use Rattle.reply.proofs.of_furthest.Goals as goal
 
 pub returns-in-At : goal.returns-in-At

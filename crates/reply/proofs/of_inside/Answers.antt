@@ -6,7 +6,6 @@ use Rattle.plane.specs.Reply.{answered}
 use Rattle.answers.specs.Answer.{of_inside}
 use Rattle.wire.specs.theory.Bits.{told}
 use Rattle.wire.specs.Told.{crossed}
-use borrow.Author.Rules.{rules}
 use Rattle.reply.proofs.of_inside.Goals as goal
 
 pub returns-in-Is : goal.returns-in-Is

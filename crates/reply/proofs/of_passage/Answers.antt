@@ -8,7 +8,6 @@ use Rattle.plane.specs.Reply.{answered}
 use Rattle.answers.specs.Answer.{of_passage}
 use Rattle.wire.specs.Told.{bits, crossed}
 use Rattle.wire.specs.theory.Bits.{told, kept-bits}
-use borrow.Author.Rules.{rules}
 use Rattle.reply.proofs.of_passage.Goals as goal
 
 pub returns-in-Free : goal.returns-in-Free

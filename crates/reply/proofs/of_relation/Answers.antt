@@ -2,7 +2,6 @@
 use mathlib.Core.Path.{◌∙◌}
 use Rattle.answers.specs.Answer.{of_relation}
 use Rattle.wire.specs.theory.Bits.{told}
-use borrow.Author.Rules.{rules}
 use Rattle.reply.proofs.of_relation.Goals as goal
 
 pub returns-in-Apart : goal.returns-in-Apart

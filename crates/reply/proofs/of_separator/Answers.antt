@@ -8,7 +8,6 @@ use Rattle.plane.specs.Reply.{answered}
 use Rattle.answers.specs.Answer.{of_separator}
 use Rattle.wire.specs.theory.Bits.{told, kept-bits}
 use Rattle.wire.specs.Told.{crossed}
-use borrow.Author.Rules.{rules}
 use Rattle.reply.proofs.of_separator.Goals as goal
 
 pub returns-in-Direction : goal.returns-in-Direction

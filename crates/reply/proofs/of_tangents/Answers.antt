@@ -2,7 +2,6 @@
 use mathlib.Core.Path.{◌∙◌}
 use Rattle.answers.specs.Answer.{of_tangents}
 use Rattle.wire.specs.theory.Bits.{told}
-use borrow.Author.Rules.{rules}
 use Rattle.reply.proofs.of_tangents.Goals as goal
 
 pub returns-in-Lines : goal.returns-in-Lines

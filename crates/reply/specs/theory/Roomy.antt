@@ -4,58 +4,31 @@ use Rattle.std.proofs.Common.{lit<, lit≤}
 use Rattle.clearance.specs.Answer.{values_of}
 use Rattle.clearance.specs.declared.measured.Distance.{Distance}
 use Rattle.admission.specs.declared.answer.Refusal.{Refusal}
-use Rattle.admission.specs.declared.answer.Refusal.TheVariants as Refusal
 use Rattle.answers.specs.declared.Unread.{Unread}
-use Rattle.answers.specs.declared.Unread.TheVariants as Unread
 use Rattle.admission.specs.declared.answer.Answer.{Answer}
-use Rattle.admission.specs.declared.answer.Answer.TheVariants as Answer
 use Rattle.part_questions.specs.declared.answer.Begun.{Begun}
-use Rattle.part_questions.specs.declared.answer.Begun.TheVariants as Begun
 use Rattle.part_questions.specs.declared.answer.Part.{Part}
-use Rattle.part_questions.specs.declared.answer.Part.TheVariants as Part
 use Rattle.answers.specs.declared.Furthest.{Furthest}
-use Rattle.answers.specs.declared.Furthest.TheVariants as Furthest
 use Rattle.answers.specs.declared.Area.{Area}
-use Rattle.answers.specs.declared.Area.TheVariants as Area
 use Rattle.answers.specs.declared.Gap.{Gap}
-use Rattle.answers.specs.declared.Gap.TheVariants as Gap
 use Rattle.answers.specs.declared.Length.{Length}
-use Rattle.answers.specs.declared.Length.TheVariants as Length
 use Rattle.answers.specs.declared.Width.{Width}
-use Rattle.answers.specs.declared.Width.TheVariants as Width
 use Rattle.answers.specs.declared.LeastBox.{LeastBox}
-use Rattle.answers.specs.declared.LeastBox.TheVariants as LeastBox
 use Rattle.answers.specs.declared.Relation.{Relation}
-use Rattle.answers.specs.declared.Relation.TheVariants as Relation
 use Rattle.answers.specs.declared.Inside.{Inside}
-use Rattle.answers.specs.declared.Inside.TheVariants as Inside
 use Rattle.answers.specs.declared.Offer.{Offer}
-use Rattle.answers.specs.declared.Offer.TheVariants as Offer
 use Rattle.answers.specs.declared.Separator.{Separator}
-use Rattle.answers.specs.declared.Separator.TheVariants as Separator
 use Rattle.answers.specs.declared.Excess.{Excess}
-use Rattle.answers.specs.declared.Excess.TheVariants as Excess
 use Rattle.answers.specs.declared.Contact.{Contact}
-use Rattle.answers.specs.declared.Contact.TheVariants as Contact
 use Rattle.answers.specs.declared.Passage.{Passage}
-use Rattle.answers.specs.declared.Passage.TheVariants as Passage
 use Rattle.answers.specs.declared.Clearance.{Clearance}
-use Rattle.answers.specs.declared.Clearance.TheVariants as Clearance
-use Rattle.clearance.specs.declared.measured.Distance.TheVariants as Distance
 use Rattle.answers.specs.declared.Nearest.{Nearest}
-use Rattle.answers.specs.declared.Nearest.TheVariants as Nearest
 use Rattle.answers.specs.declared.Tangents.{Tangents}
-use Rattle.answers.specs.declared.Tangents.TheVariants as Tangents
 use Rattle.answers.specs.declared.Tablet.{Tablet}
-use Rattle.answers.specs.declared.Tablet.TheVariants as Tablet
 use Rattle.answers.specs.declared.Addition.{Addition}
-use Rattle.answers.specs.declared.Addition.TheVariants as Addition
 use Rattle.answers.specs.declared.Entry.{Entry}
-use Rattle.answers.specs.declared.Entry.TheVariants as Entry
 use Rattle.answers.specs.declared.Drive.{Drive}
-use Rattle.answers.specs.declared.Drive.TheVariants as Drive
 use Rattle.answers.specs.declared.Greatest.{Greatest}
-use Rattle.answers.specs.declared.Greatest.TheVariants as Greatest
 use Rattle.answers.specs.Answer.{of_drive, of_greatest}
 use Rattle.answers.specs.Answer.{of_area, of_box, of_nearest, of_gap, of_contact, of_entry}
 use Rattle.answers.specs.Answer.{of_refusal, of_unread, of_answer, of_furthest, of_length, of_width, of_relation}

@@ -1,6 +1,5 @@
 -- `add` meets its contract: what is torn is cleared, then the record is written.
 use native.Mathlib.Omega.{arith}
-use borrow.Author.Rules.{rules}
 use Rattle.journal.specs.Format.{recorded}
 use Rattle.journal.proofs.theory.Read.{recorded-length}
 use Rattle.journal.proofs.theory.Storing.{ran-stores}

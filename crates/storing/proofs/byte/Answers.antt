@@ -1,6 +1,5 @@
 -- `byte` meets its contract: one store, if one is left.
 use native.Mathlib.Omega.{arith}
-use borrow.Author.Rules.{rules}
 use Rattle.journal.proofs.theory.Storing.{ran-byte}
 use Rattle.storing.proofs.byte.Goals as goal
 

@@ -1,9 +1,8 @@
 -- `clear` meets its contract. Where all bytes are 0, nothing is stored. The invariant: the bytes from p on are cleared, and those before
 -- it as they were; the measure is p.
 use mathlib.Core.Path.{◌≡◌, subst}
-use Prim.Native.Nat.{ℕ, suc, ◌-◌, ◌≤◌}
+use Prim.Native.Nat.{ℕ, suc, ◌-◌}
 use native.Mathlib.Omega.{arith}
-use borrow.Author.Rules.{rules}
 use lib.ListN.{length}
 use Rattle.journal.proofs.theory.Storing.{ran-blank, ran-length, Cleared, cleared-start, cleared-next}
 use Rattle.storing.proofs.clear.Goals as goal

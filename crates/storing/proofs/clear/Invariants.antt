@@ -1,9 +1,5 @@
-use mathlib.Core.Path.{◌≡◌, subst}
-use Prim.Native.Nat.{ℕ, suc, ◌-◌, ◌≤◌}
-use native.Mathlib.Omega.{arith}
-use borrow.Author.Rules.{rules}
-use lib.ListN.{length}
-use Rattle.journal.proofs.theory.Storing.{ran-blank, ran-length, Cleared, cleared-start, cleared-next}
+use Prim.Native.Nat.{◌≤◌}
+use Rattle.journal.proofs.theory.Storing.{Cleared}
 use Rattle.storing.proofs.clear.Given as goal
 
 abbrev pub invariant-loop-p : goal.invariant-loop-p

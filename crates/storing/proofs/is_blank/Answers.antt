@@ -1,11 +1,11 @@
 -- `is_blank` meets its contract. The invariant: if the most is 0, all bytes up to p are; the measure is what is left.
 use mathlib.Core.Path.{◌≡◌, ap}
 use mathlib.Core.List.{List}
-use Prim.Native.Nat.{ℕ, ◌+◌, ◌-◌, ◌≤◌, ◌<◌}
+use Prim.Native.Nat.{ℕ, ◌+◌, ◌≤◌, ◌<◌}
 use native.Mathlib.Decide.{ℕ_discrete}
 use native.Mathlib.Omega.{arith}
 use borrow.Author.Tests.{eqb-true}
-use lib.ListN.{length, get_or}
+use lib.ListN.{get_or}
 use Rattle.storing.proofs.is_blank.Goals as goal
 use Rattle.storing.proofs.is_blank.Goals.{then-most-log, else-most-log}
 

@@ -1,5 +1,4 @@
 -- `pair` meets its contract: two bytes, the lower first.
-use borrow.Author.Rules.{rules}
 use Rattle.journal.proofs.theory.Storing.{ran-pair}
 use Rattle.storing.proofs.pair.Goals as goal
 

@@ -1,5 +1,4 @@
 -- `tidy` meets its contract: a byte that is 0 is left alone.
-use borrow.Author.Rules.{rules}
 use Rattle.journal.proofs.theory.Storing.{ran-kept, ran-cleared}
 use Rattle.storing.proofs.tidy.Goals as goal
 

@@ -1,6 +1,5 @@
 -- `word` meets its contract: two numbers of two bytes, the lower first.
 use mathlib.Core.Path.{◌∙◌, ap}
-use borrow.Author.Rules.{rules}
 use mir.Syntax.{w32}
 use mir.Val.{of_z}
 use mir.Facts.{to_z-of_z}

@@ -2,7 +2,6 @@
 use mathlib.Core.Path.{◌≡◌, refl, ◌∙◌}
 use Prim.Native.Nat.{◌+◌, ◌*◌, ◌≤◌}
 use native.Mathlib.Omega.{arith}
-use borrow.Author.Rules.{rules}
 use lib.ListN.{length}
 use Rattle.journal.proofs.theory.Read.{recorded-length}
 use Rattle.journal.proofs.theory.Storing.{ran-length, ran-pair, ran-recorded}

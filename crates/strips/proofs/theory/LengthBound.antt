@@ -8,10 +8,9 @@ use Rattle.integer.specs.Linear.{linear, lia, ◌&◌}
 use Rattle.integer.specs.Order.{◌≤×≤◌, ◌<×≤◌, ◌<×<◌, square-nonneg, le_antisym, contra≤}
 use Rattle.plane.specs.Point.{Point, points, corner, ◌⊖◌}
 use Rattle.plane.specs.Turn.{cross}
-use Rattle.plane.specs.Shape.{IsShape}
 use Rattle.plane.specs.Reply.{answered}
 use Rattle.plane.specs.Direction.{value}
-use Rattle.plane.specs.Measure.{squared, length_squared, length_from, length_to}
+use Rattle.plane.specs.Measure.{length_squared, length_from, length_to}
 use Rattle.plane.specs.Floor.{Floored}
 use Rattle.plane.specs.Question.{reply, ask_length}
 use Rattle.plane.proofs.theory.forms.Squared.{squared-value}
@@ -21,7 +20,7 @@ use Rattle.plane.proofs.theory.refusals.Asked.{asked-values, asked-shapes}
 use Rattle.measure.specs.theory.Longest.{squared-le-length, length-longest}
 use Rattle.clearance.specs.theory.Bound.{lagrange}
 use Rattle.strips.specs.Strip.{spread}
-use Rattle.strips.proofs.theory.Spread.{spread-above, spread-attained, spread-nonneg}
+use Rattle.strips.proofs.theory.Spread.{spread-above, spread-attained}
 
 -- s·s + c·c = D·m, and m is at most L
 below : (s c D m L : ℤ) → (s *ℤ s +ℤ c *ℤ c) ≡ D *ℤ m → pos 0 ≤ℤ D → m ≤ℤ L → (s *ℤ s) ≤ℤ (L *ℤ D)

@@ -10,7 +10,6 @@ use Rattle.tablet.specs.Double.{holding}
 use Rattle.tablet.specs.Reading.{Sent}
 use Rattle.tablet_questions.specs.Coordinate.{Coordinated}
 use Rattle.tablet_questions.specs.theory.Readings.{refused-x, refused-y, sent-corner}
-use borrow.Author.Rules.{rules}
 use Rattle.tablet_questions.proofs.tablet.Goals as goal
 
 pub returns-in-No : goal.returns-in-No

@@ -16,7 +16,6 @@ use Rattle.tablet.specs.declared.reading.Reading.{Reading}
 use Rattle.tablet.specs.declared.reading.Read.TheVariants.{Whole}
 use Rattle.admission.specs.Admission.{Refuses}
 use Rattle.answers.specs.declared.Unread.{Unread}
-use Rattle.answers.specs.declared.Unread.TheVariants as Unread
 use Rattle.answers.specs.Answer.{of_unread}
 use Rattle.admission.specs.theory.Judged.{refuses-append, refuses-join}
 

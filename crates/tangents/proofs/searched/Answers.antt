@@ -1,18 +1,10 @@
 -- `searched` meets its contract. The invariant: the search is not past the tangent's end; the measure: the corners that are left.
-use Prim.Native.Nat.{◌-◌, ◌<◌}
+use Prim.Native.Nat.{◌<◌}
 use native.Mathlib.Omega.{arith}
 use lib.ListN.{length}
 use Rattle.plane.specs.Point.{points}
 use Rattle.plane.proofs.theory.lists.Flat.{points-length}
-use Rattle.tangents.specs.theory.TangentSearch.{
-  Searching,
-  search-start,
-  search-below,
-  ready-start,
-  ready-end,
-  both_rest,
-  search-more,
-}
+use Rattle.tangents.specs.theory.TangentSearch.{search-start, search-below, ready-start, ready-end, both_rest, search-more}
 use Rattle.tangents.proofs.searched.Goals as goal
 use Rattle.tangents.proofs.searched.Goals.{At-loop-to}
 

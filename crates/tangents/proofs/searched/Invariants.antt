@@ -1,17 +1,7 @@
-use Prim.Native.Nat.{◌-◌, ◌<◌}
-use native.Mathlib.Omega.{arith}
+use Prim.Native.Nat.{◌-◌}
 use lib.ListN.{length}
 use Rattle.plane.specs.Point.{points}
-use Rattle.plane.proofs.theory.lists.Flat.{points-length}
-use Rattle.tangents.specs.theory.TangentSearch.{
-  Searching,
-  search-start,
-  search-below,
-  ready-start,
-  ready-end,
-  both_rest,
-  search-more,
-}
+use Rattle.tangents.specs.theory.TangentSearch.{Searching}
 use Rattle.tangents.proofs.searched.Given as goal
 
 abbrev pub invariant-loop-to : goal.invariant-loop-to

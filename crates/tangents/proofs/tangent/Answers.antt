@@ -1,10 +1,8 @@
 -- `tangent` meets its contract. The invariant: the ends are corners of the two lists; the measure: the turns that are left.
 use mathlib.Core.Path.{subst}
 use mathlib.Core.Bool.{not}
-use Prim.Native.Nat.{ℕ, ◌-◌, ◌<◌}
+use Prim.Native.Nat.{ℕ}
 use native.Mathlib.Omega.{arith}
-use borrow.Author.Rules.{rules}
-use lib.ListN.{length}
 use Rattle.plane.specs.Point.{points}
 use Rattle.polygon.specs.Point.{at}
 use Rattle.tangents.specs.Draws.{Rests}

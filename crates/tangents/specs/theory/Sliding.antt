@@ -1,7 +1,7 @@
 -- A walk one way round, as long as the next corner draws the line's start on: where it ends, the start rests.
 --     slid-rests     it has moved, or the corner on the other way round does not draw either
 --     slid-back      so it is after a walk the other way, where the first did not move
-use Rattle.std.specs.Prelude.{◌≡◌, refl, Bool, true, false, not, List, ℕ, ◌<◌, length}
+use Rattle.std.specs.Prelude.{◌≡◌, refl, Bool, true, false, not, List, ℕ, length}
 use Rattle.std.proofs.Common.{sym, ◌∙◌, subst}
 use Rattle.plane.specs.Point.{Point, corner}
 use Rattle.plane.specs.Shape.{IsShape}

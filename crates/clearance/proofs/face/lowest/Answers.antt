@@ -1,6 +1,5 @@
 -- `lowest` meets its contract: the face in the opposite direction, its ends put in order.
 use mathlib.Core.Path.{◌≡◌, sym, ◌∙◌, ap, subst}
-use borrow.Author.Rules.{rules}
 use Rattle.integer.specs.Bound.{within-neg}
 use Rattle.plane.specs.Point.{Point, points, opposite}
 use Rattle.plane.specs.Forms.{NonZero}

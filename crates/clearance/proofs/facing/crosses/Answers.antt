@@ -1,6 +1,5 @@
 -- `crosses` meets its contract: the side of the origin, and its foot.
 use mathlib.Core.Path.{◌≡◌, ap}
-use borrow.Author.Rules.{rules}
 use lib.IntN.{ℤ, pos}
 use lib.Signed.{lt_z}
 use mir.Syntax.{w64}

@@ -1,6 +1,5 @@
 -- `foot_inside` meets its contract: two comparisons of values.
 use mathlib.Core.Path.{◌≡◌, ap₂}
-use borrow.Author.Rules.{rules}
 use lib.Signed.{lt_z}
 use mir.Syntax.{w64}
 use mir.Val.{to_z, of_z}

@@ -1,22 +1,20 @@
 -- `look` meets its contract. The invariant: from wherever the walk began, all places that are passed fail, but for the corner there, which
 -- is kept; the measure: the edges that are left.
 use mathlib.Core.Path.{◌≡◌, refl, sym, ◌∙◌, ap, subst}
-use mathlib.Core.Bool.{Bool, true, false, true≢false, false≢true}
-use Prim.Native.Nat.{ℕ, ◌+◌, ◌-◌, ◌<◌, zero-le}
+use mathlib.Core.Bool.{Bool, false, true≢false, false≢true}
+use Prim.Native.Nat.{zero-le}
 use native.Mathlib.Omega.{arith}
-use lib.ListN.{length}
 use mir.Syntax.{w64}
 use Rattle.integer.specs.Bound.{within-add, within-neg}
 use Rattle.integer.specs.Machine.{result-is}
-use Rattle.plane.specs.Point.{points, corner}
+use Rattle.plane.specs.Point.{points}
 use Rattle.plane.specs.Forms.{edges}
-use Rattle.plane.specs.VectorSum.{vector_sum}
 use Rattle.polygon.specs.Point.{at, Small}
 use Rattle.polygon.specs.theory.Small.{small-wide}
 use Rattle.calipers.specs.Image.{image}
-use Rattle.calipers.specs.Side.{Carried, walk_of}
+use Rattle.calipers.specs.Side.{walk_of}
 use Rattle.calipers.specs.Places as Places
-use Rattle.calipers.specs.Walk.{Walk, here, begun, finished, advanced, passed, stepped, At}
+use Rattle.calipers.specs.Walk.{Walk, here, begun, finished, advanced, passed, At}
 use Rattle.calipers.specs.theory.Carry.{all-passed, some_left, sides-walk, sides-here, sides-advanced, sides-at}
 use Rattle.calipers.specs.theory.Carry.{here-near, first_next, corners-fit, edges_fit}
 use Rattle.calipers.specs.theory.Standing.{passed-ended, edges-less}

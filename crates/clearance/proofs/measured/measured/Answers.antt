@@ -1,7 +1,6 @@
 -- `measured` meets its contract, a case for each kind of candidate.
 use mathlib.Core.Path.{◌≡◌, sym, ◌∙◌, ap, ap₂, subst}
 use mathlib.Core.List.{List, [], ◌∷◌}
-use borrow.Author.Rules.{rules}
 use lib.IntN.{ℤ, pos, nat_abs}
 use Rattle.plane.specs.Point.{points}
 use Rattle.plane.specs.Clearance.{shown, numbers_of}

@@ -1,6 +1,5 @@
 -- `along` meets its contract: the cross product with the direction, from both sides of 0.
 use mathlib.Core.Path.{◌≡◌, ◌∙◌, ap, ap₂}
-use borrow.Author.Rules.{rules}
 use lib.IntN.{ℤ, pos}
 use lib.Signed.{le_z}
 use mir.Syntax.{w64}

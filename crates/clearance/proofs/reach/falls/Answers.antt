@@ -1,6 +1,5 @@
 -- `falls` meets its contract: how far the foot is along the edge, against 0 and the edge's squared length.
 use mathlib.Core.Path.{◌≡◌, ◌∙◌, ap, ap₂}
-use borrow.Author.Rules.{rules}
 use lib.IntN.{pos}
 use lib.Signed.{lt_z}
 use mir.Syntax.{w64}

@@ -1,6 +1,5 @@
 -- `first_along` meets its contract: the four tests are those of the pairs of ends.
 use mathlib.Core.Path.{◌∙◌}
-use borrow.Author.Rules.{rules}
 use Rattle.clearance.specs.Faces.{picked_of}
 use Rattle.clearance.proofs.Tests.{four}
 use Rattle.clearance.proofs.reach.first_along.Goals as goal

@@ -1,6 +1,5 @@
 -- `first_reached` meets its contract: the ends of the two faces, tried in the ticket's order.
 use mathlib.Core.Path.{◌≡◌, sym, ◌∙◌, subst}
-use borrow.Author.Rules.{rules}
 use Rattle.integer.specs.Bound.{within-neg}
 use Rattle.plane.specs.Point.{Point, points, opposite}
 use Rattle.plane.specs.Forms.{NonZero}

@@ -1,5 +1,4 @@
 -- `picked` meets its contract, a case each.
-use borrow.Author.Rules.{rules}
 use Rattle.clearance.proofs.reach.picked.Goals as goal
 
 pub returns-then-first : goal.returns-then-first

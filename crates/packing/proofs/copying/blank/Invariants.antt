@@ -1,9 +1,6 @@
-use mathlib.Core.Path.{◌≡◌, subst}
-use Prim.Native.Nat.{ℕ, ◌+◌, ◌-◌, ◌≤◌}
-use native.Mathlib.Omega.{arith}
-use lib.ListN.{length, replicate, length-replicate}
+use Prim.Native.Nat.{◌-◌, ◌≤◌}
+use lib.ListN.{length, replicate}
 use Rattle.packing.specs.Copying.{Copied}
-use Rattle.packing.specs.theory.Copying.{copied_none, copied-length, copied-few, copied-zero}
 use Rattle.packing.proofs.copying.blank.Given as goal
 
 abbrev pub invariant-loop-at : goal.invariant-loop-at

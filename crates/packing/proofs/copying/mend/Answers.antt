@@ -2,7 +2,6 @@
 use mathlib.Core.Path.{sym, subst}
 use mathlib.Core.List.{List, [], ◌∷◌}
 use Prim.Native.Nat.{ℕ, ◌+◌}
-use borrow.Author.Rules.{rules}
 use Rattle.packing.specs.Copying.{Copied}
 use Rattle.packing.specs.theory.Copying.{copied-same, copied-made, copied-past, copied-length}
 use Rattle.packing.proofs.copying.mend.Goals as goal

@@ -1,6 +1,5 @@
 -- `begin` meets its contract: a list is refused, or the sum is, or the walk is begun.
 use mathlib.Core.Path.{refl}
-use borrow.Author.Rules.{rules}
 use Rattle.plane.specs.Floor.{Floored, on, Same}
 use Rattle.plane.specs.Question.{Question}
 use Rattle.parts.specs.Part.{ask_begin}

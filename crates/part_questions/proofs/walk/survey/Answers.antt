@@ -1,5 +1,4 @@
 -- `survey` meets its contract: the sum is judged by its size.
-use borrow.Author.Rules.{rules}
 use Rattle.sums.specs.PlaceAfter.{whole_sum}
 use Rattle.delivery.specs.theory.Delivery.{sized_rows_lem, judged-by}
 use Rattle.part_questions.proofs.walk.survey.Goals as goal

@@ -5,7 +5,6 @@ use Rattle.integer.specs.Machine.{result-is}
 use Rattle.tablet.proofs.theory.Rows.{not-finite-row, not-whole-row, far-row}
 use Rattle.tablet.specs.declared.reading.Read.TheVariants.{Whole}
 use Rattle.admission.specs.theory.Judged.{refuses}
-use borrow.Author.Rules.{rules}
 use Rattle.tablet_questions.proofs.coordinate.read_part.Goals as goal
 
 pub returns-in-Whole : goal.returns-in-Whole

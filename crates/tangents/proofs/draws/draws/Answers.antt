@@ -1,6 +1,5 @@
 -- `draws` meets its contract: the side by the cross product, and on the line how far ahead by the product along it.
 use mathlib.Core.Path.{◌≡◌, sym, ◌∙◌, ap, ap₂}
-use borrow.Author.Rules.{rules}
 use lib.IntN.{ℤ, pos}
 use lib.Signed.{lt_z}
 use mir.Syntax.{w64}

@@ -1,6 +1,5 @@
 -- `drawn` meets its contract: the test on the corners at the two positions.
 use mathlib.Core.Path.{◌∙◌, ap₂}
-use borrow.Author.Rules.{rules}
 use Rattle.plane.specs.Point.{Point}
 use Rattle.polygon.specs.Point.{at}
 use Rattle.polygon.specs.theory.Small.{small-corner}

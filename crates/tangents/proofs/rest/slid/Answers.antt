@@ -4,12 +4,11 @@ use mathlib.Core.Path.{◌≡◌, refl, sym, ◌∙◌, subst}
 use mathlib.Core.Bool.{true}
 use Prim.Native.Nat.{ℕ, ◌<◌}
 use native.Mathlib.Omega.{arith}
-use borrow.Author.Tests.{not-true, not-false}
 use lib.ListN.{length}
 use Rattle.plane.specs.Point.{points, corner}
 use Rattle.polygon.specs.Point.{at}
-use Rattle.tangents.specs.Draws.{draws, Beside, Came, stayed, moved}
-use Rattle.tangents.specs.theory.FiniteOrder.{counted, counted-after}
+use Rattle.tangents.specs.Draws.{draws, Beside, stayed, moved}
+use Rattle.tangents.specs.theory.FiniteOrder.{counted-after}
 use Rattle.tangents.specs.theory.DrawsOrder.{draws-self}
 use Rattle.tangents.specs.theory.SettledExists.{rest-trans}
 use Rattle.tangents.proofs.rest.slid.Goals as goal

@@ -1,15 +1,9 @@
-use mathlib.Core.Path.{◌≡◌, refl, sym, ◌∙◌, subst}
-use mathlib.Core.Bool.{true}
-use Prim.Native.Nat.{ℕ, ◌<◌}
-use native.Mathlib.Omega.{arith}
-use borrow.Author.Tests.{not-true, not-false}
+use Prim.Native.Nat.{◌<◌}
 use lib.ListN.{length}
 use Rattle.plane.specs.Point.{points, corner}
 use Rattle.polygon.specs.Point.{at}
-use Rattle.tangents.specs.Draws.{draws, Beside, Came, stayed, moved}
-use Rattle.tangents.specs.theory.FiniteOrder.{counted, counted-after}
-use Rattle.tangents.specs.theory.DrawsOrder.{draws-self}
-use Rattle.tangents.specs.theory.SettledExists.{rest-trans}
+use Rattle.tangents.specs.Draws.{draws, Came}
+use Rattle.tangents.specs.theory.FiniteOrder.{counted}
 use Rattle.tangents.proofs.rest.slid.Given as goal
 
 abbrev pub invariant-loop-q : goal.invariant-loop-q

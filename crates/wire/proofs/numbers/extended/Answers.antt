@@ -5,7 +5,6 @@ use mir.Syntax.{w32, w64}
 use mir.Val.{of_z, to_z}
 use mir.Facts.{to_z-of_z, sfits_widen}
 use Rattle.wire.specs.Told.{bits}
-use borrow.Author.Rules.{rules}
 use Rattle.wire.proofs.numbers.extended.Goals as goal
 
 pub overflow_cast-z : goal.overflow_cast-z

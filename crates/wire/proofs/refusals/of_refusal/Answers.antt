@@ -2,7 +2,6 @@
 use mathlib.Core.Path.{◌∙◌}
 use Rattle.answers.specs.Answer.{of_refusal}
 use Rattle.wire.specs.theory.Bits.{told}
-use borrow.Author.Rules.{rules}
 use Rattle.wire.proofs.refusals.of_refusal.Goals as goal
 
 pub returns-in-Count : goal.returns-in-Count

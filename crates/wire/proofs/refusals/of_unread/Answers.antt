@@ -2,7 +2,6 @@
 use mathlib.Core.Path.{◌∙◌}
 use Rattle.answers.specs.Answer.{of_unread}
 use Rattle.wire.specs.theory.Bits.{told}
-use borrow.Author.Rules.{rules}
 use Rattle.wire.proofs.refusals.of_unread.Goals as goal
 
 pub returns-in-NotFinite : goal.returns-in-NotFinite

@@ -1,8 +1,6 @@
 -- `part` meets its contract: a list is refused, then the walk, then the sum; else the part is written.
 use mathlib.Core.Path.{◌≡◌, sym, ◌∙◌}
 use mathlib.Core.Bool.{Bool}
-use borrow.Author.Rules.{rules}
-use borrow.Author.Tests.{not-true, not-false}
 use Rattle.plane.specs.Floor.{Floored, on, Same}
 use Rattle.sums.specs.PlaceAfter.{is_place}
 use Rattle.parts.specs.Part.{ask_part}
