@@ -6,7 +6,7 @@ use borrow.Author.Rules.{rules}
 use Rattle.text.proofs.output.numbers.Given as goal
 
 abbrev pub invariant-loop-i : goal.invariant-loop-i
-invariant-loop-i l = (l.i ≤ length l.list) × (length l.out ≡ length l.initial.out)
+invariant-loop-i g l = (l.i ≤ length l.list) × (length l.out ≡ length l.initial.out)
 
 abbrev pub decreases-loop-i : goal.decreases-loop-i
-decreases-loop-i l = length l.list - l.i
+decreases-loop-i g l = length l.list - l.i
