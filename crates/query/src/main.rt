@@ -23,7 +23,7 @@ const NUMBERS: usize = 16384;
 const CHARACTERS: usize = 65536;
 
 fn main(rt: HostRuntime) {
-    if is_given_arguments(&rt) {
+    if has_arguments(&rt) {
         let usage =
             "usage: query < FILE (answers one question a line; README.md lists the questions)";
         let _ = rt.eprintln(usage);
@@ -37,7 +37,7 @@ fn main(rt: HostRuntime) {
 }
 
 // Whether the program is given arguments besides its own name.
-fn is_given_arguments(rt: &impl Env) -> bool {
+fn has_arguments(rt: &impl Env) -> bool {
     match rt.arg(1, &mut [0u8; 0]) {
         Err(FillError::NotPresent) => false,
         _ => true,

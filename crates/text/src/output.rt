@@ -65,10 +65,15 @@ pub fn bits(rt: &(impl Print + Eprint), out: &mut [u8], filled: usize, number: u
     let mut end = word(rt, out, filled, b" 0x");
     for byte in number.to_be_bytes() {
         let digits = [digit(byte / 16), digit(byte % 16)];
-        end = word(rt, out, end, &[
-            digits[0].to_ascii_lowercase(),
-            digits[1].to_ascii_lowercase(),
-        ]);
+        end = word(
+            rt,
+            out,
+            end,
+            &[
+                digits[0].to_ascii_lowercase(),
+                digits[1].to_ascii_lowercase(),
+            ],
+        );
     }
     end
 }
