@@ -1,6 +1,6 @@
 // One arm for each question: it asks the library, and `replies` prints what it is told.
 use crate::table::{Entry, Question};
-use crate::{parts, readings, replies, table};
+use crate::{readings, replies, table, walks};
 use log_questions::books;
 use pair_questions::separators;
 use part_questions::walk;
@@ -65,8 +65,8 @@ fn add(
     }
     match question {
         Question::Parts => {
-            let walk = parts::walk_of(told.values[0], told.values[1], told.values[2]);
-            parts::calls(rt, out, said, walk, fields::floor(line, 0), a, b, c)
+            let walk = walks::walk_of(told.values[0], told.values[1], told.values[2]);
+            walks::calls(rt, out, said, walk, fields::floor(line, 0), a, b, c)
         }
         Question::LogAdd => {
             let begun = output::word(rt, out, said, b" | ");
@@ -112,7 +112,7 @@ fn told(
         Question::Mirror => reply::of_answer(shape_questions::mirror(a, f, out)),
         Question::Sum => reply::of_answer(pair_questions::sum(a, f, b, g, out)),
         Question::Parts => reply::of_begun(walk::begin(a, f, b, g)),
-        Question::Part => reply::of_part(parts::part(a, f, b, g, c, d, out)),
+        Question::Part => reply::of_part(walks::part(a, f, b, g, c, d, out)),
         Question::Merge => reply::of_answer(pair_questions::merge(a, f, b, g, out)),
         Question::Grow => reply::of_answer(pair_questions::grow(a, f, b, g, out)),
         Question::Sweep => reply::of_answer(shape_questions::sweep(a, f, out)),

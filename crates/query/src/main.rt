@@ -4,10 +4,10 @@
 #![tactic(auto)]
 
 mod ask;
-mod parts;
 mod readings;
 mod replies;
 mod table;
+mod walks;
 
 use std::env::FillError;
 use std::io::Input;
