@@ -1,6 +1,6 @@
 // One arm for each question: it asks the library, and `replies` prints what it is told.
 use crate::table::{Entry, Question};
-use crate::{parts, readings, replies, table};
+use crate::{readings, replies, table, walks};
 use log_questions::books;
 use pair_questions::separators;
 use part_questions::walk;
@@ -15,6 +15,7 @@ const LOG: usize = 32768;
 
 // Asks the question of a line, and adds its answer, without a newline.
 pub fn ask(
+    rt: &(impl Print + Eprint),
     out: &mut [u8],
     filled: usize,
     entry: Entry,
@@ -34,12 +35,13 @@ pub fn ask(
     let b = fields::field(values, marks, 1);
     let c = fields::field(values, marks, 2);
     let d = fields::field(values, marks, 3);
-    add(out, filled, entry, line, log, run, a, b, c, d)
+    add(rt, out, filled, entry, line, log, run, a, b, c, d)
 }
 
 // Asks the question of the fields that a line holds, of which the log, a second run of bytes, readings and floors are
 // no numbers. What it writes goes to an output of as many numbers as the room says.
 fn add(
+    rt: &(impl Print + Eprint),
     out: &mut [u8],
     filled: usize,
     entry: Entry,
@@ -57,22 +59,22 @@ fn add(
     let form = table::form_of(question);
     let end = fields::lent(room_of(question, b, c, d), shape);
     let told = told(question, line, log, run, a, b, c, d, &mut shape[0..end]);
-    let said = replies::add(out, filled, told, form, shape);
+    let said = replies::add(rt, out, filled, told, form, shape);
     if told.number != 0 {
         return said;
     }
     match question {
         Question::Parts => {
-            let walk = parts::walk_of(told.values[0], told.values[1], told.values[2]);
-            parts::calls(out, said, walk, fields::floor(line, 0), a, b, c)
+            let walk = walks::walk_of(told.values[0], told.values[1], told.values[2]);
+            walks::calls(rt, out, said, walk, fields::floor(line, 0), a, b, c)
         }
         Question::LogAdd => {
-            let begun = output::word(out, said, b" | ");
-            output::bytes(out, begun, log)
+            let begun = output::word(rt, out, said, b" | ");
+            output::bytes(rt, out, begun, log)
         }
         Question::LogPack => {
-            let begun = output::word(out, said, b" | ");
-            output::bytes(out, begun, run)
+            let begun = output::word(rt, out, said, b" | ");
+            output::bytes(rt, out, begun, run)
         }
         _ => said,
     }
@@ -110,7 +112,7 @@ fn told(
         Question::Mirror => reply::of_answer(shape_questions::mirror(a, f, out)),
         Question::Sum => reply::of_answer(pair_questions::sum(a, f, b, g, out)),
         Question::Parts => reply::of_begun(walk::begin(a, f, b, g)),
-        Question::Part => reply::of_part(parts::part(a, f, b, g, c, d, out)),
+        Question::Part => reply::of_part(walks::part(a, f, b, g, c, d, out)),
         Question::Merge => reply::of_answer(pair_questions::merge(a, f, b, g, out)),
         Question::Grow => reply::of_answer(pair_questions::grow(a, f, b, g, out)),
         Question::Sweep => reply::of_answer(shape_questions::sweep(a, f, out)),

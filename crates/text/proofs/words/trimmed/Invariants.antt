@@ -1,7 +1,5 @@
 -- `trimmed` is safe and ends. The invariant: `to` is within the text. The measure: `to`.
-use Prim.Native.Nat.{◌≤◌}
-use lib.ListN.{length}
-use borrow.Author.Rules.{rules}
+use Rattle.std.proofs.Common.{◌≤◌, length}
 use Rattle.text.proofs.words.trimmed.Given as goal
 
 abbrev pub invariant-loop-to : goal.invariant-loop-to

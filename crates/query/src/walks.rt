@@ -16,6 +16,7 @@ struct Told {
 // Makes the calls of a sum that is begun, and adds what each answers, after a bar. Of each call the numbers are how
 // many corners it may write, and the room. The next is given the walk last handed back. Both shapes are on one floor.
 pub fn calls(
+    rt: &(impl Print + Eprint),
     out: &mut [u8],
     filled: usize,
     begun: Walk,
@@ -32,21 +33,30 @@ pub fn calls(
     while i < calls.len() / 2 {
         let k = fields::count(calls, 2 * i);
         let room = fields::count(calls, 2 * i + 1);
-        told = next(out, told, on, a, b, k, room);
+        told = next(rt, out, told, on, a, b, k, room);
         i += 1;
     }
     told.filled
 }
 
 // Makes one call more.
-fn next(out: &mut [u8], told: Told, on: u16, a: &[i32], b: &[i32], k: usize, room: usize) -> Told {
+fn next(
+    rt: &(impl Print + Eprint),
+    out: &mut [u8],
+    told: Told,
+    on: u16,
+    a: &[i32],
+    b: &[i32],
+    k: usize,
+    room: usize,
+) -> Told {
     let mut answer = [0i32; SHAPE_NUMBERS];
     let lent: &mut [i32] = &mut answer;
     let end = fields::lent(room, lent);
     let walk = told.walk;
     let part = reply::of_part(walk.part(a, on, b, on, k, &mut lent[0..end]));
-    let begun = output::word(out, told.filled, b" | ");
-    let filled = replies::add(out, begun, part, Form::Call, lent);
+    let begun = output::word(rt, out, told.filled, b" | ");
+    let filled = replies::add(rt, out, begun, part, Form::Call, lent);
     if part.number != 0 {
         return Told { filled, walk };
     }
