@@ -1,3 +1,3 @@
--- The area of a shape: the definition; what it means; cases; then the theory.
+-- The area of a shape: the definition, and cases.
 pub mod Area
 pub mod Cases

@@ -1,2 +1,2 @@
--- What only proves: the theory, and what it says of the definitions.
+-- The theory of first contact.
 pub mod theory

@@ -1,2 +1,2 @@
--- First contact as the code finds it: what it works on, then the theory. What contact is: crate `motion`.
+-- First contact as the code finds it: what it works on. What contact is: crate `motion`.
 pub mod Share

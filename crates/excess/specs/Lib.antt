@@ -1,4 +1,4 @@
--- Settled answers: how far a changed shape reaches beyond the old one; the words, and what it promises; cases; then its theory.
+-- Settled answers: how far a changed shape reaches beyond the old one; the words; cases.
 pub mod Excess
 pub mod Answer
 pub mod Settled

@@ -1,4 +1,4 @@
--- The narrowest gap of a floor: the definitions; what they mean; cases; what the search keeps; then the theory.
+-- The narrowest gap of a floor: the definitions; cases; what the search keeps.
 pub mod Gap
 pub mod Cases
 pub mod Search

@@ -1,3 +1,3 @@
--- What only proves: the theory, and what it says of the definitions.
+-- What growing is for, and the theory behind it.
 pub mod Growing
 pub mod theory

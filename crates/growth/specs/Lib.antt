@@ -1,3 +1,3 @@
--- Growing obstacles by a cart's outline: the definitions; what growing is for; cases; then its theory.
+-- Growing obstacles by a cart's outline: the definitions; cases.
 pub mod Grown
 pub mod Cases

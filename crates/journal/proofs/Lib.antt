@@ -1,3 +1,3 @@
--- What only proves: the theory, and what it says of the definitions.
+-- What the definitions mean, and the theory behind it.
 pub mod Meaning
 pub mod theory

@@ -1,4 +1,4 @@
--- A log of shapes (the paper's floor book): its records, reading, adding, and histories; then what they mean, and the theory.
+-- A log of shapes (the paper's floor book): its records, reading, adding, and histories.
 pub mod Format
 pub mod Reading
 pub mod Current

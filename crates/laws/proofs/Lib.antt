@@ -1,4 +1,4 @@
--- What only proves: the theory, and what it says of the definitions.
+-- The laws; the builds that they shut out; the laws of a sweep; then the theory.
 pub mod Laws
 pub mod Sweep
 pub mod Useless

@@ -1,3 +1,3 @@
--- First contact on a straight drive: the definitions; what they mean; cases; then the theory.
+-- First contact on a straight drive: the definitions; cases.
 pub mod Contact
 pub mod Cases

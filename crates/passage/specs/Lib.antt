@@ -1,4 +1,4 @@
--- Passing between two obstacles: the definitions; what they mean; cases; then its theory.
+-- Passing between two obstacles: the definitions; cases.
 pub mod Passage
 pub mod Corridor
 pub mod Cases

@@ -1,4 +1,4 @@
--- Document 01's definitions, in reading order; then their meaning, and its theory.
+-- Document 01's definitions, in reading order.
 pub mod Limits
 pub mod Point
 pub mod Turn

@@ -1,3 +1,3 @@
--- What only proves: the theory, and what it says of the definitions.
+-- What width and clearance say of strips, in every direction, and the theory behind it.
 pub mod EveryDirection
 pub mod theory

@@ -1,3 +1,3 @@
--- Strips of the floor: their definitions; what width and clearance say of them, in every direction; then their theory.
+-- Strips of the floor: their definitions.
 pub mod Strip
 pub mod OwnDirection
