@@ -1,14 +1,14 @@
 -- What a floor that is any number means to a question (document 02, W14), what a host may read from the numbers of a call, and what the
 -- calls on bytes mean ("with the answers unchanged"): they are questions, so all of this holds for them, and so does all that plane's
 -- `Meaning.antt` says of every question. The theorems are proved in the theory; here they are only cited.
-use Rattle.std.specs.Prelude.{◌≡◌, refl, true, ◌||◌, List, [], ◌∷◌, ◌++◌, map, ℕ, ◌*◌, ◌≤◌, ◌<◌, ltb, ℤ, pos, length, drop}
+use Rattle.std.specs.Prelude.{◌≡◌, true, ◌||◌, List, [], ◌∷◌, ◌++◌, map, ℕ, ◌*◌, ◌≤◌, ◌<◌, ltb, ℤ, pos, length, drop}
 use Rattle.std.proofs.Common.{sym, ◌∙◌, le-ltb, lt-ltb}
 use Rattle.plane.specs.Limits.{max_corners, max_floor}
 use Rattle.plane.specs.Point.{Point, numbers}
 use Rattle.plane.specs.Reply.{answered, refused, Row, First}
 use Rattle.plane.specs.Refusal.{Valid}
 use Rattle.plane.specs.Output.{no_room}
-use Rattle.plane.specs.Floor.{Floored, corners, on, Shapes, two_shapes, rows_of, floor_of, Admitted}
+use Rattle.plane.specs.Floor.{Floored, corners, Shapes, two_shapes, rows_of, floor_of, Admitted}
 use Rattle.plane.specs.Question.{Question, values, reply, output, makes}
 use Rattle.endian.specs.Bytes.{words, words_at}
 use Rattle.separator.specs.Separator.{Finds, separator_numbers}

@@ -20,7 +20,6 @@ use Rattle.motion.specs.Contact.{OnWay, entry, last_entry, lowest, contact}
 use Rattle.contact.specs.declared.share.Share.{Share}
 use Rattle.contact.specs.declared.walls.BothWays.{BothWays}
 use Rattle.contact.specs.declared.drive.Meeting.{Meeting}
-use Rattle.contact.specs.declared.drive.Meeting.TheVariants as Meeting
 
 abbrev pub fraction : Share → Fraction
 fraction s = over (pos s.numerator) (pos s.denominator)

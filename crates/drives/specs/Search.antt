@@ -19,12 +19,10 @@ use Rattle.journal.specs.Survey.{record_at, next_at}
 use Rattle.motion.specs.Contact.{contact, safe, contact_numbers}
 use Rattle.contact.specs.Share.{meeting_numbers}
 use Rattle.contact.specs.declared.drive.Meeting.{Meeting}
-use Rattle.contact.specs.declared.drive.Meeting.TheVariants as Meeting
 use Rattle.gaps.specs.Gap.{grown_of}
 use Rattle.gaps.specs.Search.{from}
 use Rattle.drives.specs.Drive.{is_met, soonest_numbers}
 use Rattle.drives.specs.declared.Soonest.{Soonest}
-use Rattle.drives.specs.declared.Soonest.TheVariants as Soonest
 
 abbrev pub is_latest : List ℕ → ℕ → Bool
 is_latest b p = not (held (name (record_at b p)) (records (drop (next_at b p) b)))

@@ -1,7 +1,6 @@
 -- A corner by itself, as the code reads it back from a list of two numbers.
 use mathlib.Core.Path.{◌≡◌, ap₂}
-use mathlib.Core.List.{List, [], ◌∷◌}
-use native.Mathlib.Nat.{le_trans}
+use mathlib.Core.List.{[], ◌∷◌}
 use native.Mathlib.Omega.{arith}
 use Prim.Native.Nat.{◌^◌}
 use lib.IntN.{ℤ}

@@ -8,10 +8,8 @@ use Rattle.std.specs.Prelude.{◌≡◌, List, [], ◌∷◌, ℕ, ◌*◌, ◌<
 use Rattle.plane.specs.Point.{Point, corner}
 use Rattle.plane.specs.Measure.{root_below}
 use Rattle.clearance.specs.declared.measured.Distance.{Distance}
-use Rattle.clearance.specs.declared.measured.Distance.TheVariants as Distance
 use Rattle.excess.specs.Excess.{beyond, root_above}
 use Rattle.excess.specs.declared.answer.Beyond.{Beyond}
-use Rattle.excess.specs.declared.answer.Beyond.TheVariants as Beyond
 use Rattle.excess.specs.declared.outermost.Far.{Far}
 
 abbrev pub values_of : Beyond → List ℤ

@@ -34,9 +34,7 @@ use Rattle.neighbours.specs.declared.spacing.Spacing.{Spacing}
 use Rattle.neighbours.specs.All.{All}
 use Rattle.gaps.specs.Gap.{Pair, Kept, no_pair, the_pair, grown_of, gap_of, no_wider, narrowest, size_rows_of}
 use Rattle.gaps.specs.declared.Narrowest.{Narrowest}
-use Rattle.gaps.specs.declared.Narrowest.TheVariants as Narrowest
 use Rattle.gaps.specs.declared.search.Best.{Best}
-use Rattle.gaps.specs.declared.search.Best.TheVariants as Best
 
 abbrev pub pair_at : List ℕ → ℕ → ℕ → Pair
 pair_at b p q = (record_at b p, record_at b q)

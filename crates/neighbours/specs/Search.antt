@@ -25,9 +25,7 @@ use Rattle.journal.specs.Survey.{record_at, next_at}
 use Rattle.neighbours.specs.Nearest.{shape_of, nearest_of, nearest_numbers}
 use Rattle.neighbours.specs.Spacing.{spacing_numbers, fraction_of, Sized}
 use Rattle.neighbours.specs.declared.spacing.Spacing.{Spacing}
-use Rattle.neighbours.specs.declared.spacing.Spacing.TheVariants as Spacing
 use Rattle.neighbours.specs.declared.Near.{Near}
-use Rattle.neighbours.specs.declared.Near.TheVariants as Near
 
 abbrev pub near_numbers : Near → List ℤ
 near_numbers Near.Nobody = []

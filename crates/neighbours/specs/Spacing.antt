@@ -13,9 +13,7 @@ use Rattle.polygon.specs.Extent.{Extends}
 use Rattle.extents.specs.Far.{Spans}
 use Rattle.clearance.specs.Answer.{values_of}
 use Rattle.clearance.specs.declared.measured.Distance.{Distance}
-use Rattle.clearance.specs.declared.measured.Distance.TheVariants as Distance
 use Rattle.neighbours.specs.declared.spacing.Spacing.{Spacing}
-use Rattle.neighbours.specs.declared.spacing.Spacing.TheVariants as Spacing
 use Rattle.neighbours.specs.declared.spacing.Ratio.{Ratio}
 
 abbrev pub spacing_numbers : Spacing → List ℤ

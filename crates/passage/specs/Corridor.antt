@@ -14,7 +14,6 @@ use Rattle.plane.specs.Clearance.{nearest}
 use Rattle.strips.specs.Strip.{least, gap_in}
 use Rattle.strips.specs.OwnDirection.{towards}
 use Rattle.passage.specs.declared.corridor.Way.{Way}
-use Rattle.passage.specs.declared.corridor.Way.TheVariants as Way
 
 abbrev pub widest_of : List Point → List Point → Point
 widest_of A B = primitive (towards A B (nearest A B))

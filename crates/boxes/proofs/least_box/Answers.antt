@@ -1,10 +1,10 @@
 -- `least_box` meets its contract. The invariant: the first of the least boxes on the edges measured; the measure is how many are left.
-use Prim.Native.Nat.{◌-◌, ◌<◌}
+use Prim.Native.Nat.{◌<◌}
 use native.Mathlib.Omega.{arith}
 use lib.ListN.{length}
 use Rattle.plane.specs.Limits.{corners-small}
 use Rattle.plane.specs.Point.{points}
-use Rattle.boxes.proofs.Walk.{Walk, walk_start, walk-closing, walk-next, walk-done}
+use Rattle.boxes.proofs.Walk.{walk_start, walk-closing, walk-next, walk-done}
 use Rattle.boxes.proofs.least_box.Goals as goal
 use Rattle.boxes.proofs.least_box.Goals.{In-loop-edge}
 

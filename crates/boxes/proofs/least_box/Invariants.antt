@@ -1,9 +1,5 @@
-use Prim.Native.Nat.{◌-◌, ◌<◌}
-use native.Mathlib.Omega.{arith}
-use lib.ListN.{length}
-use Rattle.plane.specs.Limits.{corners-small}
-use Rattle.plane.specs.Point.{points}
-use Rattle.boxes.proofs.Walk.{Walk, walk_start, walk-closing, walk-next, walk-done}
+use Prim.Native.Nat.{◌-◌}
+use Rattle.boxes.proofs.Walk.{Walk}
 use Rattle.boxes.proofs.least_box.Given as goal
 
 abbrev pub invariant-loop-edge : goal.invariant-loop-edge

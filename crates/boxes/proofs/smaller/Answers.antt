@@ -1,6 +1,5 @@
 -- `smaller` meets its contract.
 use mathlib.Core.Path.{sym, ◌∙◌}
-use borrow.Author.Rules.{rules}
 use Rattle.boxes.proofs.smaller.Goals as goal
 
 pub returns-then-fraction_less : goal.returns-then-fraction_less

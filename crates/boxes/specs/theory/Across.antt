@@ -2,7 +2,7 @@
 --     NoSmaller ps d       the box in d, squared and over the squared length of d, is at least (T+S)·(T+S)/Q
 --     best-long            Q is above 0
 --     tied-no-smaller      where two corners are furthest in d, d points across the edge between them
-use Rattle.std.specs.Prelude.{◌≡◌, List, ℕ, ◌<◌, ℤ, pos, ◌*ℤ◌, length, ◌≤ℤ◌, ◌<ℤ◌}
+use Rattle.std.specs.Prelude.{◌≡◌, List, ℕ, ◌<◌, pos, ◌*ℤ◌, length, ◌≤ℤ◌, ◌<ℤ◌}
 use Rattle.std.proofs.Common.{◌∙◌}
 use Rattle.plane.specs.Point.{Point, corner, ◌∈◌}
 use Rattle.plane.specs.Turn.{cross}
@@ -11,7 +11,6 @@ use Rattle.plane.specs.Direction.{value}
 use Rattle.plane.specs.Measure.{edge_squared}
 use Rattle.measure.specs.theory.Fractions.{fraction-trans}
 use Rattle.measure.specs.theory.Height.{edge_squared-positive}
-use Rattle.strips.specs.Strip.{least}
 use Rattle.strips.specs.OwnDirection.{out_of}
 use Rattle.strips.proofs.theory.Outermost.{cross-outward, tied-edge}
 use Rattle.strips.proofs.theory.Edges.{out-squared}

@@ -1,7 +1,7 @@
 -- Points and segments: in some direction all their corners have the same value.
 --     Level D        such a direction
 --     few-level      a shape of at most two corners has one
-use Rattle.std.specs.Prelude.{◌≡◌, refl, List, [], ◌∷◌, ℕ, zero, suc, ◌≤◌, ◌<◌, ℤ, length, ◌≤ℤ◌}
+use Rattle.std.specs.Prelude.{◌≡◌, refl, List, [], ◌∷◌, ℕ, zero, suc, ◌≤◌, ◌<◌, length, ◌≤ℤ◌}
 use Rattle.std.proofs.Common.{sym, ap, arith}
 use Rattle.integer.specs.Ring.{ring, reify}
 use Rattle.integer.specs.Linear.{linear, lia}

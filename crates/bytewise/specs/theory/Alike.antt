@@ -2,7 +2,7 @@
 --     cut-alike       the numbers that are read of bytes; `none_alike`: of bytes that hold no list
 --     one-packed      the reply to a question about one list, packed, is that about the other
 --     pair-packed     the same of two lists; `pair-reply`, `pair-bytes`: the reply itself, and what becomes of the output bytes
-use Rattle.std.specs.Prelude.{◌≡◌, refl, Bool, true, false, cond, ◌||◌, List, [], ◌∷◌, ◌++◌, ℕ, ◌+◌, ◌*◌, ◌/◌, ◌%◌, ◌≤◌, eqb, ltb, ℤ}
+use Rattle.std.specs.Prelude.{◌≡◌, refl, Bool, true, false, cond, ◌||◌, List, [], ◌∷◌, ℕ, ◌+◌, ◌*◌, ◌/◌, ◌%◌, ◌≤◌, eqb, ltb, ℤ}
 use Rattle.std.specs.Prelude.{length}
 use Rattle.std.proofs.Common.{sym, ◌∙◌, ap, ap₂, subst, arith, ltb-true, ltb-false, lt-ltb, eq-eqb, ne_eqb, eqb-true}
 use Rattle.std.proofs.lemmas.Bool.{eqb-false}
@@ -10,7 +10,7 @@ use Rattle.plane.specs.Limits.{max_corners}
 use Rattle.plane.specs.Point.{points}
 use Rattle.plane.specs.Reply.{Row, here, later}
 use Rattle.plane.specs.Refusal.{bad_count, too_many, shape_rows}
-use Rattle.plane.specs.Floor.{on, Shapes, one_shape, two_shapes, floor_row, rows_of}
+use Rattle.plane.specs.Floor.{on, one_shape, two_shapes, floor_row, rows_of}
 use Rattle.plane.specs.Question.{Question, table, values, reply}
 use Rattle.plane.proofs.theory.lists.Flat.{points-length}
 use Rattle.plane.proofs.theory.refusals.Accept.{count-good}

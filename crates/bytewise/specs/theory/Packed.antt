@@ -4,11 +4,11 @@
 --     packed-parts      they are the fields of `packed`: what a refusal carries, plus the values of an answer
 --     narrow            a question whose fields have room has narrow numbers
 use Rattle.std.specs.Prelude.{◌≡◌, refl, List, [], ◌∷◌, ◌++◌, ℕ, ◌+◌, ◌*◌, ◌<◌, length, get_or}
-use Rattle.std.proofs.Common.{sym, ◌∙◌, ap, arith}
+use Rattle.std.proofs.Common.{ap, arith}
 use Rattle.plane.specs.Reply.{Reply, answered, refused}
 use Rattle.plane.specs.Question.{Question, reply}
 use Rattle.wire.specs.Told.{crossed}
-use Rattle.bytewise.specs.Packing.{refusal_field, shape_field, first_field, second_field, packed, Fits}
+use Rattle.bytewise.specs.Packing.{refusal_field, shape_field, first_field, second_field, Fits}
 use Rattle.bytewise.specs.Passing.{Narrow, Packs}
 
 -- ---- fields

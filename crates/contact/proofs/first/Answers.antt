@@ -1,5 +1,4 @@
 -- `first` meets its contract: the way keeps to one side, or the grown obstacle is at the front of its buffer.
-use borrow.Author.Rules.{rules}
 use mathlib.Core.Path.{sym, ◌∙◌, ap, subst}
 use mathlib.Core.List.{List}
 use Prim.Native.Nat.{◌≤◌}

@@ -1,17 +1,14 @@
 -- `along` meets its contract: the cart is refused, a record is bad, no shape is there, a place is far, a grown shape is too large, or what
 -- is met is answered.
-use mathlib.Core.Path.{◌≡◌, sym, ◌∙◌, ap}
+use mathlib.Core.Path.{◌≡◌, sym, ◌∙◌}
 use mathlib.Core.Bool.{false}
-use mathlib.Core.List.{List, [], ◌∷◌, ◌++◌}
-use borrow.Author.Rules.{rules}
+use mathlib.Core.List.{[], ◌∷◌}
 use lib.Dec.{ltb}
-use lib.IntN.{ℤ, pos}
 use lib.ListN.{length}
 use Rattle.plane.specs.Point.{points}
 use Rattle.plane.specs.Refusal.{some_outside, Valid}
-use Rattle.plane.specs.Reply.{answered, NoneApply}
+use Rattle.plane.specs.Reply.{NoneApply}
 use Rattle.plane.specs.Floor.{Floored, on}
-use Rattle.polygon.specs.Point.{at}
 use Rattle.journal.specs.Format.{records}
 use Rattle.journal.specs.Reading.{damaged}
 use Rattle.journal.proofs.theory.Survey.{surveyed-ends}

@@ -1,7 +1,6 @@
 -- `log_contact` meets its contract: the places are read back from their bits.
 use mir.Syntax.{w32}
 use mathlib.Core.Path.{◌∙◌, ap₂}
-use borrow.Author.Rules.{rules}
 use mir.Facts.{to_z-of_z}
 use Rattle.plane.specs.Point.{Point, point}
 use Rattle.plane.specs.Floor.{on}

@@ -1,7 +1,6 @@
 -- `first` meets its contract: the pass is lent a buffer.
 use mathlib.Core.Path.{◌≡◌, refl}
 use Prim.Native.Nat.{◌*◌}
-use borrow.Author.Rules.{rules}
 use Rattle.plane.specs.Limits.{max_corners}
 use Rattle.gaps.proofs.theory.Steps.{walk_start}
 use Rattle.drives.proofs.first.Goals as goal

@@ -1,6 +1,5 @@
 -- `is_sooner` meets its contract: nothing was found, or the fractions are compared by their products.
 use mathlib.Core.Path.{sym, ◌∙◌, ap}
-use borrow.Author.Rules.{rules}
 use Rattle.drives.specs.Search.{is_sooner}
 use Rattle.drives.proofs.is_sooner.Goals as goal
 

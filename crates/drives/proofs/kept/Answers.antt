@@ -2,13 +2,9 @@
 use mathlib.Core.Path.{◌≡◌, refl, sym, ◌∙◌, ap, ap₂}
 use mathlib.Core.Bool.{Bool, cond, ◌&&◌}
 use Prim.Native.Nat.{ℕ}
-use borrow.Author.Rules.{rules}
-use borrow.Author.Tests.{not-true, not-false}
 use Rattle.contact.specs.declared.drive.Meeting.{Meeting}
-use Rattle.contact.specs.declared.drive.Meeting.TheVariants as Meeting
 use Rattle.drives.specs.Search.{is_sooner, kept_of}
 use Rattle.drives.specs.declared.Soonest.{Soonest}
-use Rattle.drives.specs.declared.Soonest.TheVariants as Soonest
 use Rattle.drives.proofs.kept.Goals as goal
 
 -- by what the two tests say

@@ -1,5 +1,4 @@
 -- `meet` meets its contract: of a grown obstacle that is no shape nothing is asked.
-use borrow.Author.Rules.{rules}
 use Rattle.plane.proofs.theory.refusals.Rows.{first-not-none}
 use Rattle.passage.proofs.theory.Found.{grown-valid}
 use Rattle.drives.proofs.meet.Goals as goal

@@ -1,15 +1,10 @@
-use mathlib.Core.Path.{◌≡◌, sym, ◌∙◌, subst}
-use mathlib.Core.Bool.{true}
-use Prim.Native.Nat.{ℕ, ◌+◌, ◌*◌, ◌-◌, ◌≤◌}
-use native.Mathlib.Omega.{arith}
-use lib.ListN.{length, drop}
+use mathlib.Core.Path.{◌≡◌}
+use Prim.Native.Nat.{◌*◌, ◌-◌}
+use lib.ListN.{length}
 use Rattle.plane.specs.Limits.{max_corners}
 use Rattle.plane.specs.Point.{points}
 use Rattle.polygon.specs.Point.{at}
-use Rattle.journal.specs.Format.{size, whole}
-use Rattle.journal.proofs.theory.Survey.{size-at, next-inside}
-use Rattle.gaps.proofs.theory.Steps.{walk-sound}
-use Rattle.drives.specs.theory.Walked.{Searched, searched-start, searched-next, searched-end}
+use Rattle.drives.specs.theory.Walked.{Searched}
 use Rattle.drives.proofs.pass.Given as goal
 
 abbrev pub invariant-loop-t : goal.invariant-loop-t

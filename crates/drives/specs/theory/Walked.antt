@@ -24,7 +24,6 @@ use Rattle.journal.proofs.theory.Stepping.{later-good}
 use Rattle.motion.specs.Contact.{contact, safe, contact_numbers}
 use Rattle.contact.specs.Share.{meeting_numbers}
 use Rattle.contact.specs.declared.drive.Meeting.{Meeting}
-use Rattle.contact.specs.declared.drive.Meeting.TheVariants as Meeting
 use Rattle.gaps.specs.Gap.{grown_of, on_floor}
 use Rattle.gaps.specs.Search.{from, is_on, Walk}
 use Rattle.gaps.proofs.theory.Steps.{from_step, from_end, walk-next, walk-fits}
@@ -32,7 +31,6 @@ use Rattle.gaps.proofs.theory.Read.{on-elsewhere, on-here}
 use Rattle.drives.specs.Drive.{is_met, is_as_soon, met_numbers, soonest_numbers, drive_numbers}
 use Rattle.drives.specs.Search.{is_latest, found_numbers, is_sooner, MetAs, kept_of, Met, Still, Onward}
 use Rattle.drives.specs.declared.Soonest.{Soonest}
-use Rattle.drives.specs.declared.Soonest.TheVariants as Soonest
 use Rattle.drives.specs.theory.Soonest.{soonest-step}
 
 module _ (A : List Point) (t u : Point) where

@@ -6,13 +6,13 @@
 --     found-far, none-far      its fraction is the distance; 0 if p is not apart from O
 --     far-further, far-no-further     fractions compare as distances do
 --     found_up           with its millimetres rounded up it is what is answered of the outermost corner
-use Rattle.std.specs.Prelude.{◌≡◌, refl, Bool, true, false, cond, List, [], ◌∷◌, ℕ, zero, suc, ◌*◌, ◌<◌, ◌≤◌, ltb, ℤ, ◌*ℤ◌, length, get_or}
+use Rattle.std.specs.Prelude.{◌≡◌, refl, true, false, List, [], ◌∷◌, ℕ, zero, suc, ◌*◌, ◌<◌, ◌≤◌, ltb, ℤ, ◌*ℤ◌, length, get_or}
 use Rattle.std.specs.Prelude.{◌≤ℤ◌, ◌<ℤ◌}
 use Rattle.std.proofs.Math.Path.{sym, ap, ap₂}
 use Rattle.std.proofs.Common.{◌∙◌, subst, mul-one, arith, lt-ltb, lit≤}
 use Rattle.std.proofs.Math.IntN.{pos, nat_abs}
 use Rattle.integer.specs.Linear.{linear, lia, ◌&◌}
-use Rattle.integer.specs.Order.{◌<×<◌, ◌≤×<◌, ◌<×≤◌, ◌≡×◌, contra<, contra≤, weaken, lt_z-true, lt_z-false}
+use Rattle.integer.specs.Order.{◌<×<◌, ◌≤×<◌, ◌≡×◌, contra<, contra≤, lt_z-true, lt_z-false}
 use Rattle.integer.specs.Bound.{Within, nat_abs-*, size-square, positive-size}
 use Rattle.plane.specs.Limits.{max_corners, max_coordinate}
 use Rattle.plane.specs.Point.{Point, points, numbers, corner}
@@ -20,13 +20,12 @@ use Rattle.plane.specs.Shape.{IsShape}
 use Rattle.plane.specs.Refusal.{Valid}
 use Rattle.plane.specs.Measure.{squared, edge_squared, root_below}
 use Rattle.plane.specs.Separation.{apart}
-use Rattle.plane.specs.Clearance.{Candidate, corners, on_second, on_first, turn_on, top, bottom, nearest, numbers_of}
+use Rattle.plane.specs.Clearance.{Candidate, corners, on_second, turn_on, top, bottom, nearest, numbers_of}
 use Rattle.plane.specs.Distance.{Fraction, over}
 use Rattle.plane.proofs.theory.lists.Flat.{points_near}
 use Rattle.measure.specs.theory.Rounded.{root-square-over}
 use Rattle.clearance.specs.Answer.{values_of}
 use Rattle.clearance.specs.declared.measured.Distance.{Distance}
-use Rattle.clearance.specs.declared.measured.Distance.TheVariants as Distance
 use Rattle.clearance.specs.theory.Nearest.{nearest-is-whole}
 use Rattle.growth.proofs.theory.Places.{point-shape}
 use Rattle.excess.specs.Excess.{beyond, no_nearer, outermost, excess, root_above, up, corner_numbers}

@@ -1,6 +1,5 @@
 -- `are_far` meets its contract: the gap of the boxes is at most the distance, and at least what it is compared with.
 use mathlib.Core.Path.{◌≡◌, sym, ◌∙◌, ap, subst}
-use borrow.Author.Rules.{rules}
 use borrow.Author.Tests.{not-true, ltb-false}
 use mir.Syntax.{w64}
 use mir.Val.{to_z, of_z}

@@ -1,9 +1,8 @@
 -- `reach` meets its contract: the two boxes are added.
 use mathlib.Core.Path.{◌≡◌, sym, ◌∙◌, ap₂, subst}
 use Prim.Native.Nat.{◌^◌}
-use borrow.Author.Rules.{rules}
 use Rattle.integer.specs.Bound.{within-add}
-use Rattle.plane.specs.Point.{Point, points, ◌⊕◌}
+use Rattle.plane.specs.Point.{Point, ◌⊕◌}
 use Rattle.polygon.specs.Point.{at, Small}
 use Rattle.polygon.specs.theory.Extents.{extends-small}
 use Rattle.extents.proofs.reach.Goals as goal

@@ -1,11 +1,8 @@
 -- `gap` meets its contract: the search keeps the narrowest pair, and the heads of its records name it.
 use mathlib.Core.Path.{◌≡◌, refl}
 use Prim.Native.Nat.{◌*◌}
-use mathlib.Core.List.{List}
-use borrow.Author.Rules.{rules}
 use Rattle.plane.specs.Limits.{max_corners}
 use Rattle.plane.specs.Point.{points}
-use Rattle.gaps.specs.Gap.{pairs_of, on_floor}
 use Rattle.gaps.specs.Search.{Found}
 use Rattle.gaps.proofs.theory.Steps.{walk_start}
 use Rattle.gaps.proofs.theory.Passed.{answer-nothing, answer-found, answer-numbers}

@@ -12,7 +12,7 @@ use Rattle.std.proofs.Math.Path.{subst}
 use mathlib.Core.List.Memᴰ
 use mathlib.Core.List.{List, [], ◌∷◌, ◌++◌, map, Memᴰ}
 use Rattle.integer.specs.Ring.{ring, reify}
-use Rattle.integer.specs.Linear.{linear, lia, ◌&◌}
+use Rattle.integer.specs.Linear.{linear, lia}
 use Rattle.plane.specs.Point.{Point, points, origin, opposite}
 use Rattle.plane.specs.Refusal.{Valid}
 use Rattle.plane.specs.Corner.{shape_of as corner_shape_of}
@@ -27,7 +27,7 @@ use Rattle.plane.proofs.theory.support.Support.{support-one}
 use Rattle.plane.proofs.theory.hull.ShapeOf.{shape_of-shape, shape_of-support}
 use Rattle.clearance.specs.theory.Distance.{no_more-le, more_lt, no_more-refl, more-no_more, no_more-trans}
 use Rattle.clearance.specs.theory.Distance.{distance_none, distance-zero, distance-whole}
-use Rattle.growth.specs.Grown.{grown, driven}
+use Rattle.growth.specs.Grown.{driven}
 use Rattle.growth.proofs.Growing.{drive-is-apart-as-its-segment}
 use Rattle.passage.specs.Passage.{passable}
 use Rattle.journal.specs.Format.{records}

@@ -21,7 +21,6 @@ use Rattle.neighbours.specs.theory.Least.{All, least_of-step}
 use Rattle.gaps.specs.Gap.{Pair, the_pair, gap_of, no_wider, narrowest, pair_numbers}
 use Rattle.gaps.specs.Search.{pair_at, tried_at, kept_of, since, HasGap, Found, Told, Passed, nearer, is_nearer, is_on, KeptSized}
 use Rattle.gaps.specs.declared.search.Best.{Best}
-use Rattle.gaps.specs.declared.search.Best.TheVariants as Best
 
 module _ (A : List Point) where
   -- of two pairs at the front the narrower is kept, the first on a tie

@@ -5,11 +5,11 @@
 --     grown_of-shape, grown_of-valid, grown_of-few      the grown shape is one; if 6 and 7 pass, it fits such a buffer
 --     pair-gap, found_of         the gap of a pair is a fraction, and what was measured is it
 --     left_out                   boxes show that it is not nearer than what is kept
-use Rattle.std.specs.Prelude.{◌≡◌, Bool, cond, ◌&&◌, ℕ, ◌*◌, ◌<◌, ◌≤◌, ℤ, length, take, drop}
+use Rattle.std.specs.Prelude.{◌≡◌, Bool, ◌&&◌, ℕ, ◌*◌, ◌<◌, ◌≤◌, ℤ, length, take, drop}
 use Rattle.std.proofs.Math.Path.{refl, sym, ap₂}
-use Rattle.std.proofs.Common.{◌∙◌, ap, subst, arith, eq-eqb, ne_eqb, length-take-le}
+use Rattle.std.proofs.Common.{◌∙◌, ap, subst, arith, eq-eqb, ne_eqb}
 use Rattle.std.proofs.Math.Bool.{true, false, not}
-use mathlib.Core.List.{List, [], ◌∷◌}
+use mathlib.Core.List.{List}
 use Rattle.std.proofs.Math.Dec.{eqb}
 use Rattle.plane.specs.Limits.{max_corners}
 use Rattle.plane.specs.Point.{Point, points, numbers}
@@ -29,10 +29,9 @@ use Rattle.clearance.specs.theory.Distance.{distance-whole}
 use Rattle.neighbours.specs.Spacing.{spacing_numbers}
 use Rattle.neighbours.specs.declared.spacing.Spacing.{Spacing}
 use Rattle.neighbours.specs.theory.Spacings.{spacing-fraction, spacing-sized}
-use Rattle.growth.specs.Grown.{grown}
 use Rattle.growth.proofs.theory.Places.{grown-shape}
 use Rattle.passage.proofs.theory.Found.{grown-valid}
-use Rattle.journal.specs.Format.{records, name, floor, list}
+use Rattle.journal.specs.Format.{records, name, list}
 use Rattle.journal.specs.Reading.{held}
 use Rattle.journal.specs.Current.{is_other, is_around}
 use Rattle.journal.specs.Survey.{record_at, next_at, Sound, Stated}

@@ -3,8 +3,8 @@
 --     gap-refused, gap-damaged, gap-few, gap-large     1 to 5 of the cart, 15, 20, and 6 or 7 of a grown shape
 --     gap-found                                        else the narrowest gap; `some_pair`: two shapes have one
 --     gap-answers, answers-gap                         it is answered exactly if none of these rows applies
-use Rattle.std.specs.Prelude.{◌≡◌, true, false, List, [], ◌∷◌, ◌++◌, ℕ, ◌≤◌, ◌<◌, ℤ, pos, length}
-use Rattle.std.proofs.Common.{sym, ◌∙◌, ap, arith, lt-ltb, le-ltb}
+use Rattle.std.specs.Prelude.{◌≡◌, false, List, [], ◌∷◌, ◌++◌, ℕ, ◌≤◌, ◌<◌, ℤ, pos, length}
+use Rattle.std.proofs.Common.{sym, ap, arith, lt-ltb, le-ltb}
 use Rattle.plane.specs.Point.{Point}
 use Rattle.plane.specs.Reply.{Reply, Row, answered, refused, here, later, NoneApply}
 use Rattle.plane.specs.Refusal.{shape_rows, Valid}

@@ -1,6 +1,5 @@
 -- `log_add` meets its contract: the list is refused, or a record is bad, or the shape is added after the last record.
 use mathlib.Core.Path.{sym, ◌∙◌}
-use borrow.Author.Rules.{rules}
 use Rattle.plane.specs.Refusal.{Valid}
 use Rattle.journal.proofs.theory.Survey.{surveyed-ends}
 use Rattle.log_questions.specs.theory.Logs.{add-refused, add-damaged}

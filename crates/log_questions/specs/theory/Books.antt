@@ -1,7 +1,7 @@
 -- Questions over the current shapes of a log: what is answered of what the inner functions find.
 --     nearest-refused, nearest-damaged, nearest-nobody, nearest-somebody     1 to 5, 15, 20, or the nearest shape
 use Rattle.std.specs.Prelude.{◌≡◌, refl, true, false, List, [], ◌∷◌, ◌++◌, ℕ, ltb, ℤ, pos, length}
-use Rattle.std.proofs.Common.{sym, ◌∙◌, ap, arith, lt-ltb, le-ltb}
+use Rattle.std.proofs.Common.{sym, ap, arith, le-ltb}
 use Rattle.plane.specs.Point.{Point, points}
 use Rattle.plane.specs.Reply.{Reply, answered, refused, here, later}
 use Rattle.plane.specs.Refusal.{shape_rows, Valid}

@@ -1,7 +1,6 @@
 -- `is_asked` meets its contract: the record is on another floor, or its name decides.
 use mathlib.Core.Path.{sym, ap}
 use mathlib.Core.Bool.{Bool, not, ◌&&◌}
-use borrow.Author.Rules.{rules}
 use borrow.Author.Tests.{eq-eqb, ne_eqb}
 use lib.Dec.{eqb}
 use Rattle.neighbours.proofs.is_asked.Goals as goal

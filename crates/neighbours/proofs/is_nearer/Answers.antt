@@ -1,6 +1,5 @@
 -- `is_nearer` meets its contract: nothing was found, or the distances are compared.
 use mathlib.Core.Path.{sym, ◌∙◌, ap, subst}
-use borrow.Author.Rules.{rules}
 use Rattle.neighbours.specs.Spacing.{fraction_of}
 use Rattle.neighbours.specs.Search.{is_nearer, NearSized}
 use Rattle.neighbours.proofs.is_nearer.Goals as goal

@@ -1,7 +1,6 @@
 -- `is_passed` meets its contract: nothing was found, or its distance is held against the boxes.
-use mathlib.Core.Path.{◌≡◌, sym, ◌∙◌, ap, subst}
-use mathlib.Core.Bool.{Bool, false, not, true≢false}
-use borrow.Author.Rules.{rules}
+use mathlib.Core.Path.{sym, ◌∙◌, ap, subst}
+use mathlib.Core.Bool.{not, true≢false}
 use Rattle.plane.specs.Point.{points}
 use Rattle.plane.specs.Distance.{distance}
 use Rattle.extents.specs.theory.Gaps.{extends-spans}

@@ -2,13 +2,10 @@
 use mathlib.Core.Path.{◌≡◌, refl, sym, ◌∙◌, ap₂}
 use mathlib.Core.Bool.{Bool, cond, ◌&&◌}
 use Prim.Native.Nat.{ℕ}
-use borrow.Author.Rules.{rules}
-use borrow.Author.Tests.{not-true, not-false}
 use Rattle.neighbours.specs.Spacing.{fraction_of}
 use Rattle.neighbours.specs.Search.{is_nearer, kept_of}
 use Rattle.neighbours.specs.declared.spacing.Spacing.{Spacing}
 use Rattle.neighbours.specs.declared.Near.{Near}
-use Rattle.neighbours.specs.declared.Near.TheVariants as Near
 use Rattle.neighbours.proofs.kept.Goals as goal
 
 -- by what the two tests say

@@ -1,6 +1,5 @@
 -- `nearest` meets its contract: the pass, with a buffer of its own.
 use native.Mathlib.Omega.{arith}
-use borrow.Author.Rules.{rules}
 use Rattle.plane.specs.Limits.{max_corners}
 use Rattle.neighbours.proofs.nearest.Goals as goal
 

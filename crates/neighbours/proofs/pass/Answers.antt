@@ -1,11 +1,9 @@
 -- `pass` meets its contract. The invariant: what is found up to p, and what is still to come; the measure is what is left.
 use mathlib.Core.Path.{◌≡◌, sym, ◌∙◌, subst}
 use mathlib.Core.Bool.{true}
-use Prim.Native.Nat.{ℕ, ◌+◌, ◌*◌, ◌-◌, ◌≤◌}
+use Prim.Native.Nat.{ℕ, ◌+◌, ◌≤◌}
 use native.Mathlib.Omega.{arith}
-use borrow.Author.Rules.{rules}
 use lib.ListN.{length, drop}
-use Rattle.plane.specs.Limits.{max_corners}
 use Rattle.plane.specs.Point.{points}
 use Rattle.journal.specs.Format.{size, whole}
 use Rattle.journal.specs.Survey.{next_at}

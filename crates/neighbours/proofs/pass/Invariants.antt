@@ -1,16 +1,9 @@
-use mathlib.Core.Path.{◌≡◌, sym, ◌∙◌, subst}
-use mathlib.Core.Bool.{true}
-use Prim.Native.Nat.{ℕ, ◌+◌, ◌*◌, ◌-◌, ◌≤◌}
-use native.Mathlib.Omega.{arith}
-use borrow.Author.Rules.{rules}
-use lib.ListN.{length, drop}
+use mathlib.Core.Path.{◌≡◌}
+use Prim.Native.Nat.{◌*◌, ◌-◌}
+use lib.ListN.{length}
 use Rattle.plane.specs.Limits.{max_corners}
 use Rattle.plane.specs.Point.{points}
-use Rattle.journal.specs.Format.{size, whole}
-use Rattle.journal.specs.Survey.{next_at}
-use Rattle.journal.proofs.theory.Survey.{size-at, next-inside}
-use Rattle.neighbours.specs.theory.Search.{Searched, searched-start, searched-sized, searched-sound, searched-next, searched-end}
-use Rattle.neighbours.specs.theory.Search.{searched-met}
+use Rattle.neighbours.specs.theory.Search.{Searched}
 use Rattle.neighbours.proofs.pass.Given as goal
 
 abbrev pub invariant-loop-extent : goal.invariant-loop-extent

@@ -3,8 +3,7 @@
 --     near-refl, near-total, near-trans     the comparison orders them
 --     nearest-step, nearest-first, nearest-snoc      the laws of `Least.antt` for them
 --     sound-whole, around-whole    no record is bad: each that is around holds a shape
-use Rattle.std.specs.Prelude.{◌≡◌, refl, Bool, true, false, cond, ◌||◌, List, [], ◌∷◌, ◌++◌, ℕ, pos, ◌<ℤ◌}
-use Rattle.std.proofs.Common.{sym, ◌∙◌, ap, subst}
+use Rattle.std.specs.Prelude.{◌≡◌, Bool, true, false, cond, List, [], ◌∷◌, ◌++◌, ℕ}
 use Rattle.plane.specs.Point.{Point}
 use Rattle.plane.specs.Shape.{IsShape}
 use Rattle.plane.specs.Distance.{distance}

@@ -24,7 +24,7 @@ use Rattle.plane.proofs.theory.lists.Flat.{points-length}
 use Rattle.clearance.specs.theory.Distance.{le-no_more, distance-nonneg}
 use Rattle.endian.specs.Bytes.{words_at}
 use Rattle.endian.specs.theory.Bytes.{words_at-length}
-use Rattle.journal.specs.Format.{whole, records, name, floor}
+use Rattle.journal.specs.Format.{whole, records, name}
 use Rattle.journal.specs.Reading.{damaged, held}
 use Rattle.journal.specs.Current.{current, keep, is_other, is_around, around}
 use Rattle.journal.specs.Survey.{record_at, next_at, Sound, Stated}
@@ -32,12 +32,10 @@ use Rattle.journal.specs.declared.head.Head.{Head}
 use Rattle.journal.proofs.theory.Survey.{next-inside}
 use Rattle.journal.proofs.theory.Stepping.{records-step, records-end, here-good, later-good, here-valid}
 use Rattle.neighbours.specs.Nearest.{shape_of, is_as_near, nearest_of, nearest_numbers}
-use Rattle.neighbours.specs.Spacing.{spacing_numbers, fraction_of, Sized}
+use Rattle.neighbours.specs.Spacing.{spacing_numbers, fraction_of}
 use Rattle.neighbours.specs.Search.{near_numbers, is_latest, is_nearer, is_met, kept_of, NearSized, Best, Still, Onward}
 use Rattle.neighbours.specs.declared.spacing.Spacing.{Spacing}
-use Rattle.neighbours.specs.declared.spacing.Spacing.TheVariants as Spacing
 use Rattle.neighbours.specs.declared.Near.{Near}
-use Rattle.neighbours.specs.declared.Near.TheVariants as Near
 use Rattle.neighbours.specs.theory.Least.{All, all_in, least_of-in}
 use Rattle.neighbours.specs.theory.Spacings.{spacing-fraction, spacing-sized}
 use Rattle.neighbours.specs.theory.Near.{Whole, nearest-step, good-whole, around-whole}

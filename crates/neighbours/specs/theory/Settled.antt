@@ -5,7 +5,7 @@
 --     finished-nearest              a finished addition; `same-records`: logs with the same records answer alike
 --     after-nearest                 a history
 use Rattle.std.specs.Prelude.{◌≡◌, refl, Bool, cond, ◌&&◌, ◌⊎◌, ℕ, ◌<◌, eqb, ltb, ℤ, pos, length}
-use Rattle.std.proofs.Common.{sym, ◌∙◌, ap₂, subst, true≢false, inl, inr, arith, le-ltb, ne_eqb}
+use Rattle.std.proofs.Common.{sym, ◌∙◌, subst, true≢false, inl, inr, arith, le-ltb, ne_eqb}
 use Rattle.std.proofs.Math.Path.{ap}
 use Rattle.std.proofs.Math.Bool.{true, false, not}
 use mathlib.Core.List.{List, [], ◌∷◌, ◌++◌, append_assoc}
@@ -20,13 +20,13 @@ use Rattle.plane.specs.Reply.{answered, refused, row, here, later}
 use Rattle.plane.specs.Floor.{on, corners, one_shape}
 use Rattle.plane.specs.Question.{reply, asks}
 use Rattle.plane.proofs.theory.refusals.Asked.{asked-none, asked-given, rest-none, rest-given}
-use Rattle.journal.specs.Format.{recorded, records, name, content}
+use Rattle.journal.specs.Format.{recorded, records, name}
 use Rattle.journal.specs.Reading.{damaged, bad_place}
 use Rattle.journal.specs.Current.{keep, is_other, around, too_few_row}
 use Rattle.journal.specs.Adding.{added}
 use Rattle.journal.specs.History.{Addition, step, after, is_finished}
-use Rattle.journal.proofs.theory.Read.{recorded-name, recorded-content}
-use Rattle.journal.proofs.theory.Added.{finished-accepted, finished-sound, unfinished-seen}
+use Rattle.journal.proofs.theory.Read.{recorded-content}
+use Rattle.journal.proofs.theory.Added.{finished-accepted, unfinished-seen}
 use Rattle.journal.proofs.theory.Current.{keep_append, finished-around}
 use Rattle.neighbours.specs.Nearest.{shape_of, is_as_near, nearest_of, nearest_numbers, ask_nearest}
 use Rattle.neighbours.specs.Settled.{FirstLeast, IsNearest, told, is_closer, Quiet}

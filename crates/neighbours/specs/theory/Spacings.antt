@@ -4,12 +4,12 @@
 --     apart-numbers       what clearance answers, by whether the shapes are apart
 --     spacing-fraction    what clearance answers tells the distance; `spacing-sized`: and what it is divided by is not 0
 use Rattle.std.specs.Prelude.{◌≡◌, refl, Bool, true, false, not, cond, List, [], ◌∷◌, ℕ, ◌*◌, ◌<◌, ltb, ℤ, ◌*ℤ◌, ◌≤ℤ◌, ◌<ℤ◌}
-use Rattle.std.proofs.Common.{sym, ◌∙◌, subst, arith, lt-ltb, le-ltb, ltb-true, ltb-false, le→leb, lt→ltb}
+use Rattle.std.proofs.Common.{sym, ◌∙◌, subst, arith, ltb-true, ltb-false, le→leb, lt→ltb}
 use Rattle.std.proofs.Math.Path.{ap, ap₂}
 use Rattle.std.proofs.Math.IntN.{pos, nat_abs}
 use Rattle.integer.specs.Ring.{ring, reify}
 use Rattle.integer.specs.Linear.{linear, lia, ◌&◌}
-use Rattle.integer.specs.Order.{◌<×<◌, ◌<×≤◌, ◌≤×<◌, ◌≡×◌, contra≤, contra<, lt-lt_z, le_of_eq}
+use Rattle.integer.specs.Order.{◌<×<◌, ◌<×≤◌, ◌≡×◌, contra≤, contra<, lt-lt_z, le_of_eq}
 use Rattle.integer.specs.Bound.{size-square}
 use Rattle.plane.specs.Point.{Point, corner}
 use Rattle.plane.specs.Shape.{IsShape}
@@ -18,12 +18,10 @@ use Rattle.plane.specs.Clearance.{Candidate, corners, on_second, on_first, turn_
 use Rattle.plane.specs.Distance.{Fraction, over, no_more, distance}
 use Rattle.clearance.specs.Answer.{values_of}
 use Rattle.clearance.specs.declared.measured.Distance.{Distance}
-use Rattle.clearance.specs.declared.measured.Distance.TheVariants as Distance
 use Rattle.clearance.specs.theory.Distance.{le-no_more, lt-more, no_more-trans}
 use Rattle.clearance.specs.theory.Distance.{distance-apart, distance_none, distance-whole, distance-positive}
 use Rattle.neighbours.specs.Spacing.{spacing_numbers, apart_fraction, fraction_of, ApartSized, Sized, HasRatio}
 use Rattle.neighbours.specs.declared.spacing.Spacing.{Spacing}
-use Rattle.neighbours.specs.declared.spacing.Spacing.TheVariants as Spacing
 use Rattle.neighbours.specs.declared.spacing.Ratio.{Ratio}
 
 -- ---- comparing

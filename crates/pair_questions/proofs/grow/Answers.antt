@@ -1,5 +1,5 @@
 -- `grow` meets its contract: a list is refused, or the size of the differences, or they are written.
-use mathlib.Core.Path.{◌≡◌, ap}
+use mathlib.Core.Path.{ap}
 use mathlib.Core.List.{List, [], ◌∷◌}
 use borrow.Author.Rules.{rules}
 use lib.IntN.{ℤ, pos}

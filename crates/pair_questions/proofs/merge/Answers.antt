@@ -1,7 +1,6 @@
 -- `merge` meets its contract: a list is refused, or the inner function answers, with one floor for both.
 use mathlib.Core.Path.{◌≡◌, subst}
 use Prim.Native.Nat.{ℕ}
-use borrow.Author.Rules.{rules}
 use Rattle.plane.specs.Floor.{Floored, on, Same}
 use Rattle.plane.specs.Question.{reply, output, ask_merge}
 use Rattle.admission.specs.theory.Door.{shapes-refused}

@@ -1,7 +1,6 @@
 -- `passage` meets its contract: a list is refused, or a grown obstacle, or the way between the grown obstacles is answered.
-use mathlib.Core.Path.{◌≡◌, sym, ◌∙◌, ap}
+use mathlib.Core.Path.{sym, ◌∙◌, ap}
 use mathlib.Core.List.{List, [], ◌∷◌, ◌++◌}
-use borrow.Author.Rules.{rules}
 use lib.IntN.{ℤ, pos}
 use Rattle.plane.specs.Point.{points}
 use Rattle.plane.specs.Reply.{answered, NoneApply}

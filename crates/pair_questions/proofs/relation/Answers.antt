@@ -1,7 +1,6 @@
 -- `relation` meets its contract: a list is refused, or the shapes are placed.
 use mathlib.Core.Path.{◌∙◌, ap}
 use mathlib.Core.List.{[], ◌∷◌}
-use borrow.Author.Rules.{rules}
 use lib.IntN.{ℤ, pos}
 use Rattle.plane.specs.Floor.{Floored, on, Same}
 use Rattle.plane.specs.Question.{ask_relation}

@@ -1,7 +1,6 @@
 -- `relation_of` meets its contract, case by case.
 use mathlib.Core.Path.{ap, sym}
 use mathlib.Core.List.{[], ◌∷◌}
-use borrow.Author.Rules.{rules}
 use Rattle.plane.specs.Reply.{answered}
 use lib.IntN.{pos}
 use Rattle.separation.specs.declared.answer.Relation.{Relation}

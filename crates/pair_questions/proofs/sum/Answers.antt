@@ -1,7 +1,6 @@
 -- `sum` meets its contract: a list is refused, or the size of the sum, or it is written.
 use mathlib.Core.Path.{ap}
 use mathlib.Core.List.{[], ◌∷◌}
-use borrow.Author.Rules.{rules}
 use lib.IntN.{pos}
 use Rattle.plane.specs.Reply.{NoneApply}
 use Rattle.plane.specs.Output.{answer_rows}

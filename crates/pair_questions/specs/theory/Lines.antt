@@ -1,6 +1,6 @@
 -- The four tangents: the values that are answered of the lines that the inner function finds.
 --     tangents-values
-use Rattle.std.specs.Prelude.{◌≡◌, refl, Bool, true, false, List, [], ◌∷◌, pos}
+use Rattle.std.specs.Prelude.{◌≡◌, refl, Bool, true, false, [], ◌∷◌, pos}
 use Rattle.plane.specs.Tangent.{tangent_from, tangent_to}
 use Rattle.plane.specs.Floor.{Floored, corners}
 use Rattle.plane.specs.Question.{values, ask_tangents}

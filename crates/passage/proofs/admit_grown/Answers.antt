@@ -1,5 +1,4 @@
 -- `admit_grown` meets its contract: the size of the differences is judged.
-use borrow.Author.Rules.{rules}
 use Rattle.delivery.specs.theory.Delivery.{sized_rows_lem, judged-by}
 use Rattle.growth.specs.Grown.{grown}
 use Rattle.passage.proofs.admit_grown.Goals as goal

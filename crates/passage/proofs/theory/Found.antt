@@ -3,7 +3,7 @@
 --     facing-name          in lowest terms it is that of their widest gap
 --     grown-valid          a grown obstacle that 6 and 7 let pass is a shape that may be asked about
 --     corridor-passage     the widest corridor between the grown obstacles is the passage
-use Rattle.std.specs.Prelude.{◌≡◌, Bool, true, cond, List, [], ◌∷◌, ℕ, ◌*◌, ◌<◌, ℤ, pos, ◌+ℤ◌, ◌*ℤ◌, length, ◌≤ℤ◌, ◌<ℤ◌}
+use Rattle.std.specs.Prelude.{◌≡◌, true, cond, List, [], ◌∷◌, ℕ, ◌*◌, ◌<◌, ℤ, pos, ◌+ℤ◌, ◌*ℤ◌, length, ◌≤ℤ◌, ◌<ℤ◌}
 use Rattle.std.proofs.Common.{sym, ◌∙◌, arith}
 use Rattle.std.proofs.Math.Path.{ap, ap₂}
 use Rattle.std.proofs.Math.IntN.{nat_abs}
@@ -35,7 +35,7 @@ use Rattle.strips.specs.OwnDirection.{towards}
 use Rattle.strips.proofs.theory.Spread.{least-attained}
 use Rattle.growth.specs.Grown.{grown}
 use Rattle.growth.proofs.theory.Places.{grown-shape}
-use Rattle.passage.specs.Passage.{across, room, free_width, low_line, high_line, passable, passage_numbers}
+use Rattle.passage.specs.Passage.{across, free_width, passage_numbers}
 use Rattle.passage.specs.Corridor.{widest_of, corridor_numbers}
 use Rattle.passage.proofs.theory.Gaps.{grown-low, grown-high}
 use Rattle.passage.proofs.theory.Widest.{step-some, widest-same, widest-clearance}

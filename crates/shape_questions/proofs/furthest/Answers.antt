@@ -6,7 +6,6 @@ use lib.IntN.{ℤ, pos}
 use mir.Syntax.{w32, w64}
 use mir.Val.{to_z, of_z}
 use mir.Facts.{to_z-of_z}
-use borrow.Author.Rules.{rules}
 use Rattle.integer.specs.Machine.{known, machine-read, machine-is}
 use Rattle.integer.specs.Bound.{within-widen}
 use Rattle.plane.specs.Limits.{part_small}

@@ -1,5 +1,4 @@
 -- `sweep` meets its contract: a list is refused, or the inner function answers.
-use borrow.Author.Rules.{rules}
 use Rattle.plane.specs.Sweep.{ValidPoints}
 use Rattle.plane.specs.Floor.{Floored, on}
 use Rattle.plane.specs.Question.{ask_sweep}

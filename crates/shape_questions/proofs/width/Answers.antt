@@ -1,8 +1,6 @@
 -- `width` meets its contract: the list is refused, or is flat, or its narrowest edge sought.
-use mathlib.Core.List.{[], ◌∷◌}
 use Prim.Native.Nat.{◌≤◌}
 use native.Mathlib.Omega.{arith}
-use borrow.Author.Rules.{rules}
 use borrow.Author.Tests.{lt-ltb, le-ltb}
 use lib.ListN.{length}
 use Rattle.plane.specs.Point.{points}

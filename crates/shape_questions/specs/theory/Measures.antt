@@ -1,7 +1,6 @@
 -- Length and width: the values that are answered of what the inner functions find.
 --     length-values, width-values
-use Rattle.std.specs.Prelude.{◌≡◌, refl, List, [], ◌∷◌, ℕ, pos}
-use Rattle.plane.specs.Point.{Point}
+use Rattle.std.specs.Prelude.{◌≡◌, refl, [], ◌∷◌, pos}
 use Rattle.plane.specs.Question.{values, ask_length, ask_width}
 use Rattle.plane.specs.Floor.{Floored, corners}
 use Rattle.measure.specs.declared.Length.{Length}

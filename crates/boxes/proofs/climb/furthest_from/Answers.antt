@@ -8,12 +8,12 @@ use Rattle.integer.specs.Order.{weaken}
 use Rattle.plane.specs.Limits.{corners-small}
 use Rattle.plane.specs.Point.{points, corner}
 use Rattle.plane.specs.Shape.{next}
-use Rattle.plane.specs.Direction.{value, furthest}
+use Rattle.plane.specs.Direction.{value}
 use Rattle.plane.proofs.theory.face.FirstFurthest.{furthest-greatest}
 use Rattle.plane.proofs.theory.lists.Next.{next-below}
 use Rattle.polygon.specs.Point.{at}
 use Rattle.boxes.specs.Scan.{Climbs}
-use Rattle.boxes.specs.theory.Climb.{rises-up, rises-not, rising-not-found, climbed, still, still-less}
+use Rattle.boxes.specs.theory.Climb.{rises-up, rises-not, rising-not-found, climbed, still-less}
 use Rattle.boxes.proofs.climb.furthest_from.Goals as goal
 use Rattle.boxes.proofs.climb.furthest_from.Goals.{In-loop-d}
 

@@ -1,6 +1,5 @@
 -- `are_small` meets its contract, case by case.
 use mathlib.Core.Path.{sym, ◌∙◌}
-use borrow.Author.Rules.{rules}
 use Rattle.bytewise.proofs.decoding.are_small.Goals as goal
 
 pub returns-then-is_small : goal.returns-then-is_small

@@ -2,7 +2,6 @@
 use mathlib.Core.Path.{refl}
 use native.Mathlib.Omega.{arith}
 use Rattle.plane.specs.Limits.{max_corners}
-use borrow.Author.Rules.{rules}
 use Rattle.bytewise.proofs.decoding.cut.Goals as goal
 
 pub returns-then-n-lt-NUMBERS : goal.returns-then-n-lt-NUMBERS

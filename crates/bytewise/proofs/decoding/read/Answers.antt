@@ -1,5 +1,5 @@
 -- `read` meets its contract: bytes that hold no list, or the numbers are decoded.
-use mathlib.Core.Path.{sym, ◌∙◌, subst}
+use mathlib.Core.Path.{sym, subst}
 use mathlib.Core.List.{List}
 use native.Mathlib.Omega.{arith}
 use Prim.Native.Nat.{◌≤◌}
@@ -11,7 +11,6 @@ use Rattle.endian.specs.theory.Coded.{front-is}
 use Rattle.bytewise.specs.Bytes.{list_of}
 use Rattle.bytewise.specs.Passing.{Alike}
 use Rattle.bytewise.specs.theory.Alike.{none_alike, cut-alike}
-use borrow.Author.Rules.{rules}
 use Rattle.bytewise.proofs.decoding.read.Goals as goal
 use Rattle.bytewise.proofs.decoding.read.Goals.{After-cut-n}
 

@@ -4,7 +4,6 @@ use borrow.Author.Tests.{leb-true}
 use Rattle.plane.specs.Limits.{max_corners}
 use Rattle.bytewise.specs.Passing.{small_bytes}
 use Rattle.calls.specs.theory.Few.{small-enough, all-enough}
-use borrow.Author.Rules.{rules}
 use Rattle.calls.proofs.bytes.cocklesway_judge_bytes.Goals as goal
 
 pub judge-requires : goal.judge-requires

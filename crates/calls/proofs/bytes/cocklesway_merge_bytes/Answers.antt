@@ -1,5 +1,4 @@
 -- `cocklesway_merge_bytes` meets its contract, which is that of `combine`.
-use borrow.Author.Rules.{rules}
 use Rattle.calls.proofs.bytes.cocklesway_merge_bytes.Goals as goal
 
 pub returns : goal.returns

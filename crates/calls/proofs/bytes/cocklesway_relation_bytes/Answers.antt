@@ -2,7 +2,6 @@
 use mathlib.Core.Path.{sym, ◌∙◌}
 use Rattle.plane.specs.Limits.{max_corners}
 use Rattle.calls.specs.theory.Few.{both_small, small-enough, all-enough}
-use borrow.Author.Rules.{rules}
 use Rattle.calls.proofs.bytes.cocklesway_relation_bytes.Goals as goal
 
 pub relation-requires : goal.relation-requires

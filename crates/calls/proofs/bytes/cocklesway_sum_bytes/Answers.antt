@@ -1,5 +1,4 @@
 -- `cocklesway_sum_bytes` meets its contract, which is that of `combine`.
-use borrow.Author.Rules.{rules}
 use Rattle.calls.proofs.bytes.cocklesway_sum_bytes.Goals as goal
 
 pub returns : goal.returns

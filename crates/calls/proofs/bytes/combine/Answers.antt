@@ -1,7 +1,6 @@
 -- `combine` meets its contract, which is that of the one that it calls.
 use mathlib.Core.Path.{sym, ◌∙◌}
 use Rattle.calls.specs.theory.Few.{both_small}
-use borrow.Author.Rules.{rules}
 use Rattle.calls.proofs.bytes.combine.Goals as goal
 
 pub combine_small-requires : goal.combine_small-requires

@@ -2,7 +2,6 @@
 use native.Mathlib.Omega.{arith}
 use Rattle.plane.specs.Limits.{max_corners}
 use Rattle.calls.specs.theory.Few.{all-enough}
-use borrow.Author.Rules.{rules}
 use Rattle.calls.proofs.bytes.combine_large.Goals as goal
 
 pub combine-requires : goal.combine-requires

@@ -1,6 +1,5 @@
 -- `combine_small` meets its contract, which is that of `combine` with small buffers.
 use Rattle.calls.specs.theory.Few.{small-enough}
-use borrow.Author.Rules.{rules}
 use Rattle.calls.proofs.bytes.combine_small.Goals as goal
 
 pub combine-requires : goal.combine-requires

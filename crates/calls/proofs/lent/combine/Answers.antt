@@ -1,7 +1,6 @@
 -- `combine` meets its contract: the lists are read, and the question is asked.
 use mathlib.Core.Path.{◌≡◌, refl, sym, ◌∙◌, ap}
 use mathlib.Core.List.{List}
-use Prim.Native.Nat.{◌≤◌}
 use native.Mathlib.Omega.{arith}
 use lib.IntN.{ℤ}
 use lib.ListN.{length, take}
@@ -14,7 +13,6 @@ use Rattle.bytewise.specs.Packing.{packed}
 use Rattle.bytewise.specs.Passing.{combined, asked}
 use Rattle.bytewise.specs.theory.Alike.{pair-reply, pair-bytes}
 use Rattle.calls.specs.theory.Few.{combined-holds}
-use borrow.Author.Rules.{rules}
 use Rattle.calls.proofs.lent.combine.Goals as goal
 use Rattle.calls.proofs.lent.combine.Goals.{After-read-m, After-read-n}
 

@@ -9,7 +9,6 @@ use Rattle.crossing.specs.LowFloor.{low_floor}
 use Rattle.calls.specs.theory.Fits.{judged-fits}
 use Rattle.bytewise.specs.theory.Packed.{narrow}
 use Rattle.bytewise.specs.theory.Alike.{one-packed}
-use borrow.Author.Rules.{rules}
 use Rattle.calls.proofs.lent.judge.Goals as goal
 
 pub slice_bounds-cocklesway_judge-end-2 : goal.slice_bounds-cocklesway_judge-end-2

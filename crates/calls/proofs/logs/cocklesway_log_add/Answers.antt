@@ -5,7 +5,6 @@ use lib.Dec.{ltb}
 use Rattle.plane.specs.Limits.{max_floor}
 use Rattle.crossing.specs.theory.Low.{low_fits}
 use Rattle.calls.specs.theory.Logs.{added-above, added-within}
-use borrow.Author.Rules.{rules}
 use Rattle.calls.proofs.logs.cocklesway_log_add.Goals as goal
 use Rattle.calls.proofs.logs.cocklesway_log_add.Goals.{Else-exceeds_floor}
 

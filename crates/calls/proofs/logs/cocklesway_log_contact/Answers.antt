@@ -11,7 +11,6 @@ use Rattle.plane.specs.Question.{reply}
 use Rattle.drives.specs.Drive.{ask_drive}
 use Rattle.crossing.specs.theory.Low.{low_fits, within-told}
 use Rattle.crossing.specs.theory.High.{above}
-use borrow.Author.Rules.{rules}
 use Rattle.calls.proofs.logs.cocklesway_log_contact.Goals as goal
 use Rattle.calls.proofs.logs.cocklesway_log_contact.Goals.{Else-exceeds_floor}
 

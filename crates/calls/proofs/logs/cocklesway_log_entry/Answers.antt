@@ -1,7 +1,6 @@
 -- `cocklesway_log_entry` meets its contract: the reply of `log_entry`, crossed, and its output.
 use mathlib.Core.Path.{◌∙◌, ap}
 use Rattle.wire.specs.Told.{crossed}
-use borrow.Author.Rules.{rules}
 use Rattle.calls.proofs.logs.cocklesway_log_entry.Goals as goal
 
 pub returns : goal.returns

@@ -1,7 +1,6 @@
 -- `cocklesway_log_pack` meets its contract: the reply of `log_pack`, crossed, and its run.
 use mathlib.Core.Path.{◌∙◌, ap}
 use Rattle.wire.specs.Told.{crossed}
-use borrow.Author.Rules.{rules}
 use Rattle.calls.proofs.logs.cocklesway_log_pack.Goals as goal
 
 pub returns : goal.returns

@@ -11,7 +11,6 @@ use Rattle.plane.specs.Question.{reply}
 use Rattle.motion.specs.Contact.{ask_contact}
 use Rattle.crossing.specs.theory.Low.{low_fits, both-low, within-told}
 use Rattle.crossing.specs.theory.High.{above-pair}
-use borrow.Author.Rules.{rules}
 use Rattle.calls.proofs.pairs.cocklesway_contact.Goals as goal
 use Rattle.calls.proofs.pairs.cocklesway_contact.Goals.{Else-exceeds}
 

@@ -5,7 +5,6 @@ use lib.Dec.{ltb}
 use Rattle.plane.specs.Limits.{max_floor}
 use Rattle.crossing.specs.theory.Low.{low_fits, both-low}
 use Rattle.calls.specs.theory.Found.{found-above, found_within}
-use borrow.Author.Rules.{rules}
 use Rattle.calls.proofs.pairs.cocklesway_find.Goals as goal
 use Rattle.calls.proofs.pairs.cocklesway_find.Goals.{Else-exceeds}
 

@@ -10,7 +10,6 @@ use Rattle.plane.specs.Floor.{on}
 use Rattle.plane.specs.Question.{reply, ask_offer}
 use Rattle.crossing.specs.theory.Low.{low_fits, both-low, within-told}
 use Rattle.crossing.specs.theory.High.{above-pair}
-use borrow.Author.Rules.{rules}
 use Rattle.calls.proofs.pairs.cocklesway_offer.Goals as goal
 use Rattle.calls.proofs.pairs.cocklesway_offer.Goals.{Else-exceeds}
 

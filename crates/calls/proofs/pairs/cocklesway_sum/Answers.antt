@@ -5,7 +5,6 @@ use lib.Dec.{ltb}
 use Rattle.plane.specs.Limits.{max_floor}
 use Rattle.crossing.specs.theory.Low.{low_fits, both-low, within-written}
 use Rattle.crossing.specs.theory.High.{above-pair}
-use borrow.Author.Rules.{rules}
 use Rattle.calls.proofs.pairs.cocklesway_sum.Goals as goal
 use Rattle.calls.proofs.pairs.cocklesway_sum.Goals.{Else-exceeds}
 

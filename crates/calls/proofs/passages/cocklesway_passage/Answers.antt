@@ -6,7 +6,6 @@ use Rattle.plane.specs.Limits.{max_floor}
 use Rattle.wire.specs.Told.{crossed}
 use Rattle.crossing.specs.theory.Low.{low_fits}
 use Rattle.crossing.specs.theory.Passages.{all-low, passage-within, passage-above}
-use borrow.Author.Rules.{rules}
 use Rattle.calls.proofs.passages.cocklesway_passage.Goals as goal
 use Rattle.calls.proofs.passages.cocklesway_passage.Goals.{Else-exceeds_three}
 

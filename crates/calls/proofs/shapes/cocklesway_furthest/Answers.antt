@@ -10,7 +10,6 @@ use Rattle.plane.specs.Floor.{on}
 use Rattle.plane.specs.Question.{reply, ask_furthest}
 use Rattle.crossing.specs.theory.Low.{low_fits, within-told}
 use Rattle.crossing.specs.theory.High.{above}
-use borrow.Author.Rules.{rules}
 use Rattle.calls.proofs.shapes.cocklesway_furthest.Goals as goal
 use Rattle.calls.proofs.shapes.cocklesway_furthest.Goals.{Else-exceeds_floor}
 

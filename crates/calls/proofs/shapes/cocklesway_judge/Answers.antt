@@ -5,7 +5,6 @@ use lib.Dec.{ltb}
 use Rattle.plane.specs.Limits.{max_floor}
 use Rattle.crossing.specs.theory.Low.{low_fits, within-told}
 use Rattle.crossing.specs.theory.High.{above}
-use borrow.Author.Rules.{rules}
 use Rattle.calls.proofs.shapes.cocklesway_judge.Goals as goal
 use Rattle.calls.proofs.shapes.cocklesway_judge.Goals.{Else-exceeds_floor}
 

@@ -5,7 +5,6 @@ use lib.Dec.{ltb}
 use Rattle.plane.specs.Limits.{max_floor}
 use Rattle.crossing.specs.theory.Low.{low_fits, within-written}
 use Rattle.crossing.specs.theory.High.{above}
-use borrow.Author.Rules.{rules}
 use Rattle.calls.proofs.shapes.cocklesway_mirror.Goals as goal
 use Rattle.calls.proofs.shapes.cocklesway_mirror.Goals.{Else-exceeds_floor}
 

@@ -6,7 +6,6 @@ use Rattle.plane.specs.Limits.{max_floor}
 use Rattle.plane.specs.Floor.{on}
 use Rattle.crossing.specs.theory.Low.{low_fits}
 use Rattle.crossing.specs.theory.Rings.{ring-within, ring-above}
-use borrow.Author.Rules.{rules}
 use Rattle.calls.proofs.shapes.cocklesway_ring.Goals as goal
 use Rattle.calls.proofs.shapes.cocklesway_ring.Goals.{Else-exceeds_floor}
 

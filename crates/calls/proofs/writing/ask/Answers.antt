@@ -1,5 +1,4 @@
 -- `ask` meets its contract, each way that of its question.
-use borrow.Author.Rules.{rules}
 use Rattle.calls.proofs.writing.ask.Goals as goal
 
 pub returns-then-merged : goal.returns-then-merged

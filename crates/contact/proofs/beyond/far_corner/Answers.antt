@@ -1,7 +1,6 @@
 -- `far_corner` meets its contract, one coordinate after the other.
 use mathlib.Core.Path.{◌≡◌, refl, ◌∙◌, ap₂}
 use Prim.Native.Nat.{◌^◌}
-use borrow.Author.Rules.{rules}
 use mir.Syntax.{w32}
 use mir.Val.{to_z, of_z}
 use mir.Facts.{to_z-of_z}

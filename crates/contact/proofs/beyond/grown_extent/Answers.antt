@@ -1,6 +1,5 @@
 -- `grown_extent` meets its contract: supports add, and a step from an opposite is a sum.
 use Prim.Native.Nat.{◌^◌}
-use Rattle.plane.specs.Point.{opposite}
 use Rattle.polygon.specs.Point.{at, Small}
 use Rattle.polygon.specs.theory.Extents.{extends-small}
 use Rattle.polygon.specs.theory.Small.{small-step}

@@ -1,7 +1,6 @@
 -- `is_beside` meets its contract: the opposite direction is as small.
 use mathlib.Core.Path.{sym, ◌∙◌, ap}
 use mathlib.Core.Bool.{Bool, ◌||◌}
-use borrow.Author.Rules.{rules}
 use Rattle.plane.specs.Point.{Point, opposite}
 use Rattle.polygon.specs.Point.{at}
 use Rattle.contact.specs.Share.{is_past}

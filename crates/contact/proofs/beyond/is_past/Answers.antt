@@ -1,7 +1,6 @@
 -- `is_past` meets its contract: the corner of the box is as small as its ends.
 use mathlib.Core.Path.{◌≡◌, sym, ◌∙◌, ap, ap₂, subst}
 use Prim.Native.Nat.{◌^◌}
-use borrow.Author.Rules.{rules}
 use mir.Syntax.{w64}
 use mir.Val.{to_z, of_z}
 use lib.Signed.{lt_z}

@@ -1,5 +1,4 @@
 -- `first_of` meets its contract: the last entry in lowest terms, unless the way is apart.
-use borrow.Author.Rules.{rules}
 use mathlib.Core.Path.{◌≡◌, sym, ◌∙◌, ap, subst}
 use mathlib.Core.List.{[], ◌∷◌}
 use Prim.Native.Nat.{ℕ}
@@ -13,8 +12,8 @@ use Rattle.plane.specs.Measure.{squared}
 use Rattle.plane.specs.Separation.{apart}
 use Rattle.plane.proofs.theory.forms.Squared.{squared-nonneg}
 use Rattle.polygon.specs.Point.{at}
-use Rattle.motion.specs.Contact.{OnWay, lowest, contact}
-use Rattle.contact.specs.Share.{fraction, exceed}
+use Rattle.motion.specs.Contact.{OnWay, contact}
+use Rattle.contact.specs.Share.{fraction}
 use Rattle.motion.proofs.theory.Meeting.{first-on-way}
 use Rattle.contact.proofs.theory.Sides.{small-place}
 use Rattle.contact.proofs.theory.Told.{whole_words, length-bounded, never-told, at_told}

@@ -1,9 +1,5 @@
-use mathlib.Core.Path.{◌≡◌, refl, sym, ◌∙◌, ap}
-use native.Mathlib.Nat.{mod-lt}
-use native.Mathlib.Omega.{arith}
+use mathlib.Core.Path.{◌≡◌}
 use Rattle.divisor.specs.Divisor.{gcd}
-use Rattle.divisor.specs.Euclid.{gcd-zero}
-use Rattle.contact.proofs.theory.Found.{gcd-step}
 use Rattle.contact.proofs.share.divisor.Given as goal
 
 abbrev pub invariant-loop-y : goal.invariant-loop-y

@@ -1,6 +1,5 @@
 -- `exceed` meets its contract: what a part leaves of the way, and two products.
 use mathlib.Core.Path.{◌∙◌}
-use borrow.Author.Rules.{rules}
 use Rattle.contact.proofs.theory.Words.{exceed-words}
 use Rattle.contact.proofs.share.exceed.Goals as goal
 

@@ -1,7 +1,6 @@
 -- `is_less` meets its contract: both products have two words, and are compared.
 use mathlib.Core.Path.{◌∙◌, ap, ap₂}
 use Prim.Native.Nat.{◌*◌}
-use borrow.Author.Rules.{rules}
 use lib.Dec.{ltb}
 use Rattle.wide.specs.theory.Laws.{value-word}
 use Rattle.contact.proofs.share.is_less.Goals as goal

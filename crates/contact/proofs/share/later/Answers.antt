@@ -1,6 +1,5 @@
 -- `later` meets its contract: the second is the start, or it is later exactly if its product is greater.
 use mathlib.Core.Path.{sym, ◌∙◌}
-use borrow.Author.Rules.{rules}
 use Rattle.contact.proofs.theory.Words.{later_first, later_second, later-begun}
 use Rattle.contact.proofs.share.later.Goals as goal
 

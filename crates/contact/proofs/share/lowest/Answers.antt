@@ -1,5 +1,4 @@
 -- `lowest` meets its contract: the divisor is not 0, since the denominator is not.
-use borrow.Author.Rules.{rules}
 use mathlib.Core.Path.{◌∙◌, ap}
 use mathlib.Core.Logic.{inr}
 use Prim.Native.Nat.{ℕ, ◌/◌, ◌<◌}

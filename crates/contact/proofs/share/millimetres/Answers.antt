@@ -1,12 +1,11 @@
 -- `millimetres` meets its contract. The invariant: low is reached and high + 1 is not; the measure is what lies between.
 use mathlib.Core.Path.{sym, ◌∙◌}
-use Prim.Native.Nat.{ℕ, ◌-◌, ◌*◌, ◌≤◌}
+use Prim.Native.Nat.{ℕ, ◌*◌, ◌≤◌}
 use native.Mathlib.Nat.{mul-le-mul, mul-pos}
 use native.Mathlib.Omega.{arith}
-use borrow.Author.Rules.{rules}
 use mir.Syntax.{w64}
 use mir.Val.{Fits}
-use Rattle.contact.proofs.theory.Found.{Spanned, spanned-start, spanned-down, spanned-up, spanned-end}
+use Rattle.contact.proofs.theory.Found.{spanned-start, spanned-down, spanned-up, spanned-end}
 use Rattle.contact.proofs.share.millimetres.Goals as goal
 
 -- a square of at most 2^22

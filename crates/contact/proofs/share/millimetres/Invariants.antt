@@ -1,11 +1,5 @@
-use mathlib.Core.Path.{sym, ◌∙◌}
-use Prim.Native.Nat.{ℕ, ◌-◌, ◌*◌, ◌≤◌}
-use native.Mathlib.Nat.{mul-le-mul, mul-pos}
-use native.Mathlib.Omega.{arith}
-use borrow.Author.Rules.{rules}
-use mir.Syntax.{w64}
-use mir.Val.{Fits}
-use Rattle.contact.proofs.theory.Found.{Spanned, spanned-start, spanned-down, spanned-up, spanned-end}
+use Prim.Native.Nat.{◌-◌, ◌*◌}
+use Rattle.contact.proofs.theory.Found.{Spanned}
 use Rattle.contact.proofs.share.millimetres.Given as goal
 
 abbrev pub invariant-loop-low : goal.invariant-loop-low

@@ -1,20 +1,9 @@
-use mathlib.Core.Path.{◌≡◌, refl, sym, ◌∙◌, ap₂, subst}
-use Prim.Native.Nat.{ℕ, ◌-◌, ◌^◌, ◌≤◌, ◌<◌}
-use native.Mathlib.Omega.{arith}
-use borrow.Author.Rules.{rules}
-use lib.IntN.{ℤ}
+use mathlib.Core.Path.{◌≡◌}
+use Prim.Native.Nat.{◌-◌, ◌≤◌}
 use lib.ListN.{length}
-use lib.Signed.{mag}
-use mir.Syntax.{w64}
-use mir.Val.{to_z, of_z}
-use Rattle.integer.specs.Bound.{Within}
-use Rattle.integer.specs.Machine.{result-is}
-use Rattle.plane.specs.Point.{Point, points}
+use Rattle.plane.specs.Point.{points}
 use Rattle.polygon.specs.Point.{at}
-use Rattle.motion.specs.Contact.{edge_normal, past, entering, later}
-use Rattle.contact.specs.declared.walls.BothWays.{BothWays}
-use Rattle.contact.specs.Share.{Places, Arrived}
-use Rattle.contact.proofs.theory.Arrivals.{wall-more, all-met, out-met}
+use Rattle.contact.specs.Share.{Arrived}
 use Rattle.contact.proofs.walls.arrivals.Given as goal
 
 abbrev pub invariant-loop-i : goal.invariant-loop-i

@@ -1,5 +1,4 @@
 -- `box_arrival` meets its contract: the four sides, one after the other.
-use borrow.Author.Rules.{rules}
 use mathlib.Core.Path.{◌∙◌, ap, ap₂}
 use lib.IntN.{pos}
 use Rattle.plane.specs.Distance.{over}

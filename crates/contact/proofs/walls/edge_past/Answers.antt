@@ -1,5 +1,4 @@
 -- `edge_past` meets its contract: no corner is past the line of an edge, so how far a place is past it is its turn.
-use borrow.Author.Rules.{rules}
 use mathlib.Core.Path.{◌≡◌, sym, ◌∙◌, ap, ap₂, subst}
 use Prim.Native.Nat.{ℕ}
 use lib.IntN.{ℤ, neg_ℤ}

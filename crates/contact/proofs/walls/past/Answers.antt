@@ -1,5 +1,4 @@
 -- `past` meets its contract: the product of the steps, the other way round.
-use borrow.Author.Rules.{rules}
 use mathlib.Core.Path.{◌∙◌, ap₂}
 use mir.Syntax.{w64}
 use Rattle.integer.specs.Machine.{result-is}

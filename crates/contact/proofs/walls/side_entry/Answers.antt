@@ -1,5 +1,4 @@
 -- `side_entry` meets its contract: the values and the greatest value are bounded, so that their differences fit.
-use borrow.Author.Rules.{rules}
 use mathlib.Core.Path.{◌≡◌, ◌∙◌, ap₂}
 use lib.IntN.{◌-ℤ◌}
 use mir.Syntax.{w64}

@@ -1,7 +1,6 @@
 -- `start` meets its contract: three corners or more, or the box.
 use mathlib.Core.Path.{◌∙◌}
 use native.Mathlib.Omega.{arith}
-use borrow.Author.Rules.{rules}
 use Rattle.plane.specs.Point.{points}
 use Rattle.polygon.specs.Point.{at}
 use Rattle.contact.proofs.theory.Arrivals.{wall-none, wall-box}

@@ -5,7 +5,6 @@ use Rattle.crossing.specs.theory.High.{barred-refused, barred-shapes}
 use Rattle.plane.specs.Refusal.{shape_rows, Valid}
 use Rattle.plane.proofs.theory.refusals.Accept.{valid→accepted}
 use Rattle.admission.specs.theory.Judged.{refuses-append, refuses-join}
-use borrow.Author.Rules.{rules}
 use Rattle.crossing.proofs.floors.barred_pair.Goals as goal
 use Rattle.crossing.proofs.floors.barred_pair.Goals.{In_default, In_default-admit}
 

@@ -2,7 +2,6 @@
 use mathlib.Core.Path.{◌∙◌, ap}
 use Rattle.wire.specs.Told.{crossed}
 use Rattle.crossing.specs.theory.High.{barred-refused, barred-points}
-use borrow.Author.Rules.{rules}
 use Rattle.crossing.proofs.floors.barred_points.Goals as goal
 
 pub returns-in-No : goal.returns-in-No

@@ -3,7 +3,6 @@ use mathlib.Core.Path.{◌∙◌, ap}
 use Rattle.wire.specs.Told.{crossed}
 use Rattle.crossing.specs.theory.High.{barred-refused}
 use Rattle.crossing.specs.theory.Rings.{ring-barred}
-use borrow.Author.Rules.{rules}
 use Rattle.crossing.proofs.floors.barred_ring.Goals as goal
 
 pub returns-in-No : goal.returns-in-No

@@ -7,7 +7,6 @@ use Rattle.admission.specs.theory.Judged.{refuses-append, refuses-join}
 use Rattle.wire.specs.Told.{crossed}
 use Rattle.crossing.specs.theory.High.{barred-refused}
 use Rattle.crossing.specs.theory.Passages.{barred-three}
-use borrow.Author.Rules.{rules}
 use Rattle.crossing.proofs.floors.barred_three.Goals as goal
 use Rattle.crossing.proofs.floors.barred_three.Goals.{In_default, In_default-admit, In_default-admit-2}
 

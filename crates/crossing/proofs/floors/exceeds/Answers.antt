@@ -1,6 +1,5 @@
 -- `exceeds` meets its contract, case by case.
 use mathlib.Core.Path.{sym, ◌∙◌}
-use borrow.Author.Rules.{rules}
 use Rattle.crossing.proofs.floors.exceeds.Goals as goal
 
 pub returns-then-exceeds_floor : goal.returns-then-exceeds_floor

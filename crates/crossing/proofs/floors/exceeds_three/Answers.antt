@@ -1,6 +1,5 @@
 -- `exceeds_three` meets its contract, case by case.
 use mathlib.Core.Path.{sym, ◌∙◌}
-use borrow.Author.Rules.{rules}
 use Rattle.crossing.proofs.floors.exceeds_three.Goals as goal
 
 pub returns-then-exceeds : goal.returns-then-exceeds

@@ -1,11 +1,6 @@
-use mathlib.Core.Path.{◌≡◌, sym, ◌∙◌, subst}
-use mathlib.Core.Bool.{true}
-use Prim.Native.Nat.{ℕ, ◌+◌, ◌-◌, ◌≤◌}
-use native.Mathlib.Omega.{arith}
-use lib.ListN.{length, drop}
-use Rattle.journal.specs.Format.{size, whole}
-use Rattle.journal.proofs.theory.Survey.{size-at, next-inside}
-use Rattle.drives.specs.theory.Walked.{Bare, bare-start, bare-sound, bare-next, bare-found, bare-end}
+use Prim.Native.Nat.{◌-◌}
+use lib.ListN.{length}
+use Rattle.drives.specs.theory.Walked.{Bare}
 use Rattle.drives.proofs.floor.is_empty.Given as goal
 
 abbrev pub invariant-loop-floor : goal.invariant-loop-floor

@@ -1,7 +1,6 @@
 -- `spacing` meets its contract: it is clearance's, of a list of one corner.
 use mathlib.Core.Path.{subst}
 use mathlib.Core.List.{List}
-use borrow.Author.Rules.{rules}
 use Rattle.plane.specs.Point.{Point, points}
 use Rattle.polygon.specs.Point.{at}
 use Rattle.clearance.specs.Answer.{Spaced}

@@ -1,7 +1,6 @@
 -- `distance_of` meets its contract: the corner is a shape by itself.
 use mathlib.Core.Path.{◌≡◌, subst}
 use mathlib.Core.List.{[], ◌∷◌}
-use borrow.Author.Rules.{rules}
 use Rattle.plane.specs.Point.{points}
 use Rattle.polygon.specs.Point.{at}
 use Rattle.clearance.specs.declared.Spacing.{Spacing}

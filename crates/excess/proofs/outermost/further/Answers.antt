@@ -1,7 +1,6 @@
 -- `further` meets its contract: the fractions decide.
 use mathlib.Core.Path.{sym, ◌∙◌, ap}
 use mathlib.Core.Bool.{Bool, cond}
-use borrow.Author.Rules.{rules}
 use Rattle.excess.proofs.outermost.further.Goals as goal
 
 pub returns-then-fraction_less : goal.returns-then-fraction_less

@@ -1,6 +1,5 @@
 -- `measured` meets its contract, a case for each kind.
 use mathlib.Core.Path.{sym, ap}
-use borrow.Author.Rules.{rules}
 use Rattle.clearance.specs.declared.measured.Distance.{Distance}
 use Rattle.excess.specs.Answer.{far_of}
 use Rattle.excess.proofs.outermost.measured.Goals as goal

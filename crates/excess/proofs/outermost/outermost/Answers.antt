@@ -1,9 +1,8 @@
 -- `outermost` meets its contract. The invariant: the first furthest of the first i corners; the measure is how many are to come.
-use mathlib.Core.Path.{◌≡◌, sym, ◌∙◌, subst}
-use Prim.Native.Nat.{ℕ, ◌-◌, ◌≤◌}
+use mathlib.Core.Path.{◌≡◌, sym, subst}
+use Prim.Native.Nat.{ℕ, ◌≤◌}
 use native.Mathlib.Numerals.{add-one}
 use native.Mathlib.Omega.{arith}
-use borrow.Author.Rules.{rules}
 use lib.ListN.{length}
 use Rattle.plane.specs.Limits.{max_corners, corners-small}
 use Rattle.plane.specs.Point.{points}

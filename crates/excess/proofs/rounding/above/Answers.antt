@@ -1,7 +1,6 @@
 -- `above` meets its contract: one more than the root rounded down, unless that is exact.
 use mathlib.Core.Path.{sym, ◌∙◌}
 use native.Mathlib.Omega.{arith}
-use borrow.Author.Rules.{rules}
 use Rattle.excess.proofs.theory.Rounded.{above-next, above-exact, above-le}
 use Rattle.excess.proofs.rounding.above.Goals as goal
 

@@ -2,7 +2,6 @@
 use mathlib.Core.Path.{sym, ◌∙◌, ap, subst}
 use mathlib.Core.List.{[], ◌∷◌}
 use Prim.Native.Nat.{ℕ}
-use borrow.Author.Rules.{rules}
 use lib.IntN.{pos}
 use Rattle.clearance.specs.declared.measured.Distance.{Distance}
 use Rattle.excess.specs.Answer.{RoundedDown, up_numbers}

@@ -1,6 +1,5 @@
 -- `is_on` meets its contract: another floor, or it is asked whether a later record has the name.
 use mathlib.Core.Path.{◌∙◌}
-use borrow.Author.Rules.{rules}
 use Rattle.gaps.proofs.theory.Read.{on-elsewhere, on-here}
 use Rattle.gaps.proofs.floor.is_on.Goals as goal
 

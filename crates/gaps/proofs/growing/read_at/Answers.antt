@@ -1,6 +1,5 @@
 -- `read_at` meets its contract: the numbers of the record are decoded.
 use native.Mathlib.Omega.{arith}
-use borrow.Author.Rules.{rules}
 use Rattle.gaps.proofs.theory.Read.{stated-few, read-list, read_length, read_count}
 use Rattle.gaps.proofs.growing.read_at.Goals as goal
 

@@ -1,17 +1,11 @@
-use mathlib.Core.Path.{◌≡◌, sym, ◌∙◌, ap, subst}
-use mathlib.Core.Bool.{true}
-use mathlib.Core.List.{map}
-use Prim.Native.Nat.{ℕ, ◌+◌, ◌*◌, ◌-◌, ◌≤◌}
-use native.Mathlib.Omega.{arith}
-use lib.ListN.{length, drop}
+use mathlib.Core.Path.{◌≡◌}
+use Prim.Native.Nat.{◌*◌, ◌-◌}
+use lib.ListN.{length}
 use Rattle.plane.specs.Limits.{max_corners}
 use Rattle.plane.specs.Point.{points}
-use Rattle.journal.specs.Format.{size, whole}
-use Rattle.journal.specs.Survey.{record_at, next_at}
-use Rattle.journal.proofs.theory.Survey.{size-at, next-inside}
+use Rattle.journal.specs.Survey.{next_at}
 use Rattle.gaps.specs.Search.{later_pairs, Walk}
-use Rattle.gaps.proofs.theory.Steps.{walk-sound, walk-next, later-step, from_end}
-use Rattle.gaps.proofs.theory.Passed.{Along, along-start, along-next, along-end}
+use Rattle.gaps.proofs.theory.Passed.{Along}
 use Rattle.gaps.proofs.search.later.Given as goal
 
 abbrev pub invariant-loop-reach : goal.invariant-loop-reach

@@ -1,16 +1,14 @@
 -- `narrowest` meets its contract. The invariant: what is kept up to p, and the pairs still to come; the measure is what is left.
 use mathlib.Core.Path.{◌≡◌, sym, ◌∙◌, ap, subst}
 use mathlib.Core.Bool.{true}
-use mathlib.Core.List.{List}
-use Prim.Native.Nat.{ℕ, ◌+◌, ◌*◌, ◌-◌, ◌≤◌}
+use Prim.Native.Nat.{ℕ, ◌+◌, ◌≤◌}
 use native.Mathlib.Omega.{arith}
 use lib.ListN.{length, drop}
-use Rattle.plane.specs.Limits.{max_corners}
 use Rattle.plane.specs.Point.{points}
 use Rattle.journal.specs.Format.{size, whole}
 use Rattle.journal.proofs.theory.Survey.{size-at, next-inside}
-use Rattle.gaps.specs.Gap.{Pair, pairs_of}
-use Rattle.gaps.specs.Search.{from, Walk}
+use Rattle.gaps.specs.Gap.{pairs_of}
+use Rattle.gaps.specs.Search.{Walk}
 use Rattle.gaps.specs.declared.search.Best.TheVariants as Best
 use Rattle.gaps.proofs.theory.Steps.{walk-sound, walk-next, pairs-step, from_end}
 use Rattle.gaps.proofs.theory.Passed.{Along, along-start, along-next, along-end}

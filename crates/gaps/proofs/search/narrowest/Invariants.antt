@@ -1,18 +1,13 @@
-use mathlib.Core.Path.{◌≡◌, sym, ◌∙◌, ap, subst}
-use mathlib.Core.Bool.{true}
+use mathlib.Core.Path.{◌≡◌}
 use mathlib.Core.List.{List}
-use Prim.Native.Nat.{ℕ, ◌+◌, ◌*◌, ◌-◌, ◌≤◌}
-use native.Mathlib.Omega.{arith}
-use lib.ListN.{length, drop}
+use Prim.Native.Nat.{ℕ, ◌*◌, ◌-◌}
+use lib.ListN.{length}
 use Rattle.plane.specs.Limits.{max_corners}
 use Rattle.plane.specs.Point.{points}
-use Rattle.journal.specs.Format.{size, whole}
-use Rattle.journal.proofs.theory.Survey.{size-at, next-inside}
 use Rattle.gaps.specs.Gap.{Pair, pairs_of}
 use Rattle.gaps.specs.Search.{from, Walk}
 use Rattle.gaps.specs.declared.search.Best.TheVariants as Best
-use Rattle.gaps.proofs.theory.Steps.{walk-sound, walk-next, pairs-step, from_end}
-use Rattle.gaps.proofs.theory.Passed.{Along, along-start, along-next, along-end}
+use Rattle.gaps.proofs.theory.Passed.{Along}
 use Rattle.gaps.proofs.search.narrowest.Given as goal
 
 -- the pairs of the floor's shapes from a place on

@@ -2,13 +2,11 @@
 use mathlib.Core.Path.{◌≡◌, refl, sym, ◌∙◌, ap, subst}
 use mathlib.Core.Bool.{Bool, true, false, not, cond}
 use Prim.Native.Nat.{ℕ}
-use borrow.Author.Rules.{rules}
 use Rattle.plane.specs.Distance.{no_more}
 use Rattle.neighbours.specs.Spacing.{fraction_of}
 use Rattle.neighbours.specs.declared.spacing.Spacing.{Spacing}
 use Rattle.gaps.specs.Search.{nearer, KeptSized}
 use Rattle.gaps.specs.declared.search.Best.{Best}
-use Rattle.gaps.specs.declared.search.Best.TheVariants as Best
 use Rattle.gaps.proofs.search.nearer.Goals as goal
 use Rattle.gaps.proofs.search.nearer.Goals.{After-is_less}
 

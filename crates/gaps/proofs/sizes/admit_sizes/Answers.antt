@@ -1,5 +1,4 @@
 -- `admit_sizes` meets its contract: the pass with a buffer of its own.
-use mathlib.Core.Path.{refl}
 use borrow.Author.Rules.{rules}
 use Rattle.plane.specs.Limits.{max_corners}
 use Rattle.gaps.proofs.sizes.admit_sizes.Goals as goal

@@ -1,15 +1,9 @@
-use mathlib.Core.Path.{◌≡◌, sym, ◌∙◌, subst}
-use mathlib.Core.Bool.{true}
-use Prim.Native.Nat.{ℕ, ◌+◌, ◌*◌, ◌-◌, ◌≤◌}
-use native.Mathlib.Omega.{arith}
-use borrow.Author.Rules.{rules}
-use lib.ListN.{length, drop}
+use mathlib.Core.Path.{◌≡◌}
+use Prim.Native.Nat.{◌*◌, ◌-◌}
+use lib.ListN.{length}
 use Rattle.plane.specs.Limits.{max_corners}
 use Rattle.plane.specs.Point.{points}
-use Rattle.admission.specs.theory.Judged.{passes, turns-away}
-use Rattle.journal.specs.Format.{size, whole}
-use Rattle.journal.proofs.theory.Survey.{size-at, next-inside}
-use Rattle.gaps.proofs.theory.Steps.{Judging, judging-start, judging-sound, judging-next, judging-refused, judging-end}
+use Rattle.gaps.proofs.theory.Steps.{Judging}
 use Rattle.gaps.proofs.sizes.pass.Given as goal
 
 abbrev pub invariant-loop-shape : goal.invariant-loop-shape

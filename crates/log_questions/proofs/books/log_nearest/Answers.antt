@@ -1,7 +1,6 @@
 -- `log_nearest` meets its contract: a list is refused, a record is bad, no shape is left, or the nearest is found.
 use mathlib.Core.Path.{◌≡◌, sym, ◌∙◌, ap}
 use mathlib.Core.Bool.{false}
-use borrow.Author.Rules.{rules}
 use Rattle.plane.specs.Refusal.{Valid}
 use Rattle.journal.specs.Format.{records}
 use Rattle.journal.specs.Reading.{damaged}

@@ -1,6 +1,5 @@
 -- `log_pack` meets its contract: a record is bad, or the log is packed.
 use mathlib.Core.Path.{sym, ◌∙◌}
-use borrow.Author.Rules.{rules}
 use Rattle.journal.proofs.theory.Survey.{surveyed-ends}
 use Rattle.log_questions.specs.theory.Packing.{pack-damaged}
 use Rattle.log_questions.proofs.books.log_pack.Goals as goal

@@ -1,8 +1,6 @@
 -- `pack_sound` meets its contract: too little room, or the stores are made.
-use mathlib.Core.Path.{sym, ◌∙◌}
 use Prim.Native.Nat.{◌≤◌}
 use native.Mathlib.Omega.{arith}
-use borrow.Author.Rules.{rules}
 use lib.ListN.{length}
 use Rattle.packing.specs.Packing.{packed}
 use Rattle.log_questions.specs.theory.Packing.{pack-full, pack-done}

@@ -1,7 +1,6 @@
 -- `paired` meets its contract: the shapes meet, or are apart.
 use mathlib.Core.Path.{sym, ap}
 use mathlib.Core.List.{[], ◌∷◌, ◌++◌}
-use borrow.Author.Rules.{rules}
 use lib.IntN.{pos}
 use Rattle.plane.specs.Reply.{answered}
 use Rattle.neighbours.specs.Spacing.{spacing_numbers}

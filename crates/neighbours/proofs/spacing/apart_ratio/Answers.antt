@@ -1,5 +1,4 @@
 -- `apart_ratio` meets its contract, kind by kind.
-use borrow.Author.Rules.{rules}
 use Rattle.neighbours.specs.theory.Spacings.{corners-ratio, second-ratio, first-ratio}
 use Rattle.neighbours.proofs.spacing.apart_ratio.Goals as goal
 

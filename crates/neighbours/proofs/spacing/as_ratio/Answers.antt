@@ -1,6 +1,5 @@
 -- `as_ratio` meets its contract: shapes that meet are at 0 over 1.
 use mathlib.Core.Path.{sym, subst}
-use borrow.Author.Rules.{rules}
 use Rattle.neighbours.specs.Spacing.{fraction_of, Sized, HasRatio}
 use Rattle.neighbours.specs.declared.spacing.Spacing.{Spacing}
 use Rattle.neighbours.specs.theory.Spacings.{meets-ratio}

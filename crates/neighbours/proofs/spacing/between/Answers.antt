@@ -1,6 +1,5 @@
 -- `between` meets its contract: the numbers of clearance, where the shapes are apart.
 use mathlib.Core.Path.{◌≡◌, ◌∙◌, subst}
-use borrow.Author.Rules.{rules}
 use Rattle.plane.specs.Point.{points}
 use Rattle.clearance.specs.declared.Spacing.{Spacing}
 use Rattle.clearance.specs.Answer.{Spaced}

@@ -1,5 +1,4 @@
 -- `is_far` meets its contract: the boxes are held against the ratio of the distance.
-use borrow.Author.Rules.{rules}
 use Rattle.plane.specs.Distance.{distance}
 use Rattle.clearance.specs.theory.Distance.{distance-whole}
 use Rattle.extents.specs.theory.Gaps.{extends-bounded}

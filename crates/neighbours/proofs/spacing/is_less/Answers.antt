@@ -1,6 +1,5 @@
 -- `is_less` meets its contract: ratios compare as the fractions that they are.
 use mathlib.Core.Path.{◌∙◌}
-use borrow.Author.Rules.{rules}
 use Rattle.neighbours.specs.Spacing.{fraction_of}
 use Rattle.neighbours.specs.theory.Spacings.{ratio-less, sized-whole}
 use Rattle.neighbours.proofs.spacing.is_less.Goals as goal

@@ -1,7 +1,6 @@
 -- `excess` meets its contract: a list is refused, or the new shape is compared with the old one.
 use mathlib.Core.Path.{◌∙◌, ap}
 use mathlib.Core.List.{List, [], ◌∷◌, ◌++◌}
-use borrow.Author.Rules.{rules}
 use lib.IntN.{ℤ, pos}
 use Rattle.plane.specs.Floor.{Floored, on, Same}
 use Rattle.excess.specs.Excess.{ask_excess}

@@ -1,7 +1,6 @@
 -- `merge_in` meets its contract: the shape is made in the buffer and delivered.
 use mathlib.Core.Path.{refl, sym}
 use native.Mathlib.Omega.{arith}
-use borrow.Author.Rules.{rules}
 use Rattle.plane.specs.Floor.{on, two_shapes}
 use Rattle.plane.proofs.theory.lists.Flat.{points-length}
 use Rattle.polygon.specs.theory.Fronts.{front_length}

@@ -1,6 +1,5 @@
 -- `merge_large` meets its contract: the buffer holds the corners of any two shapes.
 use native.Mathlib.Omega.{arith}
-use borrow.Author.Rules.{rules}
 use Rattle.plane.specs.Limits.{max_corners}
 use Rattle.plane.proofs.theory.lists.Flat.{points-length}
 use Rattle.pair_questions.proofs.merging.merge_large.Goals as goal

@@ -1,6 +1,5 @@
 -- `greatest` meets its contract: a list is refused, or the furthest pair of corners sought.
 use mathlib.Core.Path.{refl}
-use borrow.Author.Rules.{rules}
 use Rattle.plane.specs.Floor.{Floored, on, Same}
 use Rattle.admission.specs.theory.Door.{shapes-refused, all-answered}
 use Rattle.reach.specs.Greatest.{ask_greatest}

@@ -1,6 +1,5 @@
 -- `find` meets its contract: a list is refused, or what is found is told.
 use mathlib.Core.Path.{refl, ◌∙◌}
-use borrow.Author.Rules.{rules}
 use Rattle.plane.specs.Floor.{Floored, on, Same}
 use Rattle.separator.specs.Separator.{ask_separator}
 use Rattle.admission.specs.theory.Door.{all-answered}

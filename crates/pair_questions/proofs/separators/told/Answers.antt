@@ -1,7 +1,6 @@
 -- `told` meets its contract, case by case; the parts of a direction are read back from their bits.
 use mathlib.Core.Path.{refl, sym, ◌∙◌, ap, ap₂}
 use mathlib.Core.List.{[], ◌∷◌, ◌++◌}
-use borrow.Author.Rules.{rules}
 use lib.IntN.{ℤ, pos}
 use mir.Syntax.{w32}
 use Rattle.integer.specs.Machine.{result-is}

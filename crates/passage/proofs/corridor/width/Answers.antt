@@ -1,7 +1,6 @@
 -- `width` meets its contract: the root of the squared room over the direction's squared length.
 use mathlib.Core.Path.{◌≡◌, sym, ◌∙◌, ap, ap₂}
 use Prim.Native.Nat.{ℕ, ◌*◌, ◌<◌}
-use borrow.Author.Rules.{rules}
 use borrow.Author.Tests.{ltb-true}
 use lib.IntN.{pos, nat_abs}
 use mir.Syntax.{w64}

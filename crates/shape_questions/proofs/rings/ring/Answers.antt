@@ -1,7 +1,6 @@
 -- `ring` meets its contract: a list is refused by 1 to 3, or the inner function answers.
 use mathlib.Core.List.{[], ◌∷◌}
 use native.Mathlib.Omega.{arith}
-use borrow.Author.Rules.{rules}
 use Rattle.plane.specs.Limits.{max_points}
 use Rattle.plane.specs.Point.{points}
 use Rattle.plane.specs.Floor.{on}

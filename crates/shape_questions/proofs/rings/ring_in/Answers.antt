@@ -2,9 +2,6 @@
 use mathlib.Core.Path.{◌≡◌, sym}
 use mathlib.Core.Bool.{true}
 use native.Mathlib.Omega.{arith}
-use borrow.Author.Rules.{rules}
-use borrow.Author.Tests.{not-false}
-use lib.ListN.{length}
 use Rattle.plane.specs.Point.{points}
 use Rattle.polygon.specs.theory.Fronts.{front_length}
 use Rattle.ring.specs.theory.Steps.{opened-le}

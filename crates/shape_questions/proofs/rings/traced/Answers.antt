@@ -1,6 +1,5 @@
 -- `traced` meets its contract: the buffers hold the positions of all points.
 use native.Mathlib.Omega.{arith}
-use borrow.Author.Rules.{rules}
 use Rattle.plane.specs.Limits.{max_points}
 use Rattle.shape_questions.proofs.rings.traced.Goals as goal
 

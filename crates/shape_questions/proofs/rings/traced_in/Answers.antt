@@ -1,6 +1,5 @@
 -- `traced_in` meets its contract: the positions of the corners are found, and then told.
 use mathlib.Core.Path.{sym, ◌∙◌, ap}
-use borrow.Author.Rules.{rules}
 use lib.ListN.{length}
 use Rattle.shape_questions.proofs.rings.traced_in.Goals as goal
 

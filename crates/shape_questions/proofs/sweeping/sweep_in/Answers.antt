@@ -1,7 +1,6 @@
 -- `sweep_in` meets its contract: the shape is made in the buffer and delivered.
 use mathlib.Core.Path.{sym}
 use native.Mathlib.Omega.{arith}
-use borrow.Author.Rules.{rules}
 use Rattle.plane.specs.Floor.{on}
 use Rattle.plane.proofs.theory.lists.Flat.{points-length}
 use Rattle.polygon.specs.theory.Fronts.{front_length}

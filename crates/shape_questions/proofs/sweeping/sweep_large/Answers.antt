@@ -1,6 +1,5 @@
 -- `sweep_large` meets its contract: the buffer holds both chains of the points of any sweep.
 use native.Mathlib.Omega.{arith}
-use borrow.Author.Rules.{rules}
 use Rattle.plane.specs.Limits.{max_points}
 use Rattle.plane.proofs.theory.lists.Flat.{points-length}
 use Rattle.shape_questions.proofs.sweeping.sweep_large.Goals as goal
