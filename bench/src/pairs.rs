@@ -13,6 +13,14 @@ pub fn single(random: &mut Random, n: usize, outline: Outline) -> Case {
     Case::new(outline(random, n, size, 0, 0), List::new())
 }
 
+/// One shape whose list begins at another corner than the lowest.
+pub fn elsewhere(random: &mut Random, n: usize, outline: Outline) -> Case {
+    let mut case = single(random, n, outline);
+    let corners = case.a.as_chunks_mut::<2>().0;
+    corners.rotate_left(1 + random.below(n as u64 - 1) as usize);
+    case
+}
+
 /// Points anywhere in range.
 pub fn scattered(random: &mut Random, n: usize, _: Outline) -> Case {
     let numbers = (0..2 * n).map(|_| random.between(-1_000_000, 1_000_000));
@@ -137,6 +145,18 @@ pub fn beside_cart(random: &mut Random, n: usize, outline: Outline) -> Case {
 fn with_cart(random: &mut Random, n: usize, [x, y]: [i32; 2], outline: Outline) -> Case {
     let obstacle = outline(random, n, 800_000, 0, 0);
     Case::new(obstacle, outline(random, 8, 1200, x, y))
+}
+
+/// A place beside an obstacle of n corners.
+pub fn near_place(random: &mut Random, n: usize, outline: Outline) -> Case {
+    let (x, y) = off(random, 450_000);
+    Case::new(vec![x, y], outline(random, n, 800_000, 0, 0))
+}
+
+/// A place in an obstacle of n corners.
+pub fn at_place(random: &mut Random, n: usize, outline: Outline) -> Case {
+    let [x, y] = [0; 2].map(|_: i32| random.between(-100_000, 100_000));
+    Case::new(vec![x, y], outline(random, n, 800_000, 0, 0))
 }
 
 /// Two obstacles of n corners side by side, or one above the other, and a cart of 8 that passes between them.

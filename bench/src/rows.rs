@@ -1,8 +1,9 @@
 //! The rows of the tables: a question, and cases for which it does its work.
 use crate::pairs::{
-    Make, alike, apart, beside_cart, crossing, drawn, drawn_twice, driving_in, driving_past, far,
-    kept, large, merged, moved_away, nested, passing, scattered, shuffled, single, stocked,
-    stocked_for_cart, stocked_for_drive, stuck, summed, twice, under_cart,
+    Make, alike, apart, at_place, beside_cart, crossing, drawn, drawn_twice, driving_in,
+    driving_past, elsewhere, far, kept, large, merged, moved_away, near_place, nested, passing,
+    scattered, shuffled, single, stocked, stocked_for_cart, stocked_for_drive, stuck, summed,
+    twice, under_cart,
 };
 use crate::plain::MOST;
 use crate::runs::*;
@@ -92,7 +93,7 @@ the calls of a host, on bytes: both shapes of their sums have the column's corne
         rows: &REGULAR,
     },
     Table {
-        legend: "an obstacle of the column's corner count, of a passage two, and a cart of 8 corners\n",
+        legend: "an obstacle of the column's corner count, of a passage two, and a cart of 8 corners or a place\n",
         sizes: OBSTACLES,
         counted: Counted::Corners,
         outline: polygon,
@@ -117,8 +118,9 @@ the calls of a host, on bytes: both shapes of their sums have the column's corne
     },
 ];
 
-const QUESTIONS: [Row; 35] = [
+const QUESTIONS: [Row; 36] = [
     ("judge", JUDGE, single),
+    ("judge, refused 5", JUDGE, elsewhere),
     ("furthest", FURTHEST, single),
     ("mirror", MIRROR, single),
     ("length", LENGTH, single),
@@ -186,11 +188,13 @@ const REGULAR: [Row; 17] = [
     ("tangents", TANGENTS, apart),
 ];
 
-const CARTS: [Row; 10] = [
+const CARTS: [Row; 12] = [
     ("sum", SUM, under_cart),
     ("grow", GROW, under_cart),
     ("relation, apart", RELATION, beside_cart),
     ("relation, overlapping", RELATION, under_cart),
+    ("relation of a place, apart", RELATION, near_place),
+    ("relation of a place, in it", RELATION, at_place),
     ("clearance, apart", CLEARANCE, beside_cart),
     ("clearance, none", CLEARANCE, under_cart),
     ("passage, free", PASSAGE, passing),
@@ -209,8 +213,9 @@ const GAPS: [Row; 1] = [("log_gap", LOG_GAP, stocked_for_cart)];
 
 /// Every proved question, on a shape and the same one moved away (`moved_away`). It takes the whole walk to find that a
 /// shape overlaps one that it is inside of. A log has as many records as the column says corners.
-pub const GROWTH: [(&str, Run, Make); 30] = [
+pub const GROWTH: [(&str, Run, Make); 31] = [
     ("judge", JUDGE[0], moved_away),
+    ("judge, refused 5", JUDGE[0], elsewhere),
     ("furthest", FURTHEST[0], moved_away),
     ("mirror", MIRROR[0], moved_away),
     ("sum", SUM[0], moved_away),

@@ -121,7 +121,7 @@ impl Way {
         walked.is_continue().then_some(self.enter)
     }
 
-    /// Cuts it by a wall that its ends are so far past. Whether nothing is left.
+    /// Cuts it by a wall that its ends are so far past. Whether nothing is left, which is asked only if it was cut.
     #[inline(always)]
     fn misses(&mut self, from: i64, to: i64) -> bool {
         if from <= 0 && to <= 0 {
@@ -130,13 +130,17 @@ impl Way {
         if from > 0 && to > 0 {
             return true;
         }
-        let (size, all) = (from.unsigned_abs(), from.abs_diff(to));
+        let at = (from.unsigned_abs(), from.abs_diff(to));
         if from > 0 {
-            if is_less(self.enter, (size, all)) {
-                self.enter = (size, all);
+            if !is_less(self.enter, at) {
+                return false;
             }
-        } else if is_less((size, all), self.leave) {
-            self.leave = (size, all);
+            self.enter = at;
+        } else {
+            if !is_less(at, self.leave) {
+                return false;
+            }
+            self.leave = at;
         }
         is_less(self.leave, self.enter)
     }

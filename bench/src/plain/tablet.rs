@@ -3,8 +3,17 @@ use super::judge::FURTHEST;
 use crate::reply::Numbers;
 use cocklesway::Reading;
 
-/// All doubles from here on are whole, either way.
-const WHOLE: f64 = 9_007_199_254_740_992.0;
+/// From here on every double is whole, either way.
+const WHOLE: f64 = 4_503_599_627_370_496.0;
+
+/// Less than this in size, a double may be rounded by a sum.
+const SHORT: f64 = 2_147_483_648.0;
+
+/// The sum with this has no digits after the point.
+const ONES: f64 = 1.5 * WHOLE;
+
+/// The sum with this is a multiple of 8.
+const EIGHTS: f64 = 8.0 * ONES;
 
 /// The corner that two readings are.
 #[inline(never)]
@@ -16,27 +25,40 @@ pub fn tablet(x: Reading, y: Reading) -> Numbers {
     }
 }
 
-/// A reading in millimetres, or its refusal: 17, 18 or 3.
+/// A reading in millimetres, or its refusal: 17, 18 or 3. The lowest bits of the sum are the millimetres.
 #[inline(always)]
 fn coordinate(reading: Reading) -> Result<i32, u64> {
-    let (number, millimetres) = match reading {
-        Reading::Millimetres(number) => (number, number),
-        Reading::Eighths(number) => (number, number * 0.125),
+    let (number, added) = match reading {
+        Reading::Millimetres(number) => (number, ONES),
+        Reading::Eighths(number) => (number, EIGHTS),
     };
-    if !number.is_finite() {
-        return Err(17);
+    if number.abs() >= SHORT || number.is_nan() {
+        return Err(refused(reading));
     }
-    if !is_whole(millimetres) || (millimetres == 0.0 && number != 0.0) {
+    let sum = number + added;
+    let millimetres = sum.to_bits() as i32;
+    if sum - added != number {
         return Err(18);
     }
-    if millimetres.abs() > FURTHEST.into() {
+    if millimetres.abs() > FURTHEST {
         return Err(3);
     }
-    Ok(millimetres as i32)
+    Ok(millimetres)
 }
 
-/// Whether a finite double is a whole number.
-#[inline(always)]
-fn is_whole(number: f64) -> bool {
-    number.abs() >= WHOLE || number as i64 as f64 == number
+/// Why a reading of `SHORT` or more in size, or not finite, is refused.
+#[cold]
+fn refused(reading: Reading) -> u64 {
+    let millimetres = match reading {
+        Reading::Millimetres(number) => number,
+        Reading::Eighths(number) => number * 0.125,
+    };
+    let size = millimetres.abs();
+    if !size.is_finite() {
+        return 17;
+    }
+    if size < WHOLE && size + WHOLE - WHOLE != size {
+        return 18;
+    }
+    3
 }
