@@ -39,7 +39,8 @@ pub fn stride(a: &[i32], b: &[i32], top: usize) -> Partway
         let from = side::here(s, t);
         let c = side::order(s, t);
         if 0 < c {
-            if moment(from, s) <= 0 {
+            let stays = moment(from, s) <= 0;
+            if stays {
                 return Partway { s, t, joined };
             }
             s = side::ahead(a, s, false);

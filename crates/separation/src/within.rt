@@ -20,7 +20,8 @@ pub fn in_polygon(a: &[i32], b: &[i32]) -> bool
     let mut t = side::side_at(b, 0);
     while t.at < n {
         let c = side::order(s, t);
-        if c <= 0 {
+        let passes = c <= 0;
+        if passes {
             if side::turn(t, s) < 0 {
                 return false;
             }

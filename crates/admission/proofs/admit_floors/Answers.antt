@@ -1,5 +1,6 @@
 -- `admit_floors` meets its contract.
-use mathlib.Core.Path.{ap}
+use mathlib.Core.Path.{◌≡◌, ap}
+use native.Mathlib.Omega.{arith}
 use mathlib.Core.Bool.{not}
 use borrow.Author.Tests.{ne_eqb}
 use Rattle.plane.specs.Reply.{here}
@@ -10,4 +11,4 @@ pub returns-then-f-g : goal.returns-then-f-g
 returns-then-f-g c = turns-away (refuses (here (ap not (ne_eqb _ _ c.if-f-g.true))))
 
 pub returns : goal.returns
-returns c = passes c.if-f-g.false
+returns c = passes (let same : c.args.f ≡ c.args.g = omega arith in same)

@@ -17,7 +17,6 @@ use Rattle.plane.proofs.theory.face.FirstFurthest.{furthest-greatest}
 use Rattle.polygon.specs.Point.{at}
 use Rattle.direction.specs.theory.Face.{face-over-end, face-onward, face-alone}
 use Rattle.direction.proofs.face_towards.Goals as goal
-use Rattle.direction.proofs.face_towards.Goals.{then-here-eq0+then-n-gt2+else-reaches, else-here-eq0}
 use Rattle.direction.proofs.face_towards.Goals.{After-count-n, After-first_furthest-here, After-value_at-value, Joined-here-eq0}
 
 pub first_furthest-here-requires : goal.first_furthest-here-requires
@@ -66,7 +65,7 @@ test-is c i e =
 pub returns-then-reaches : goal.returns-then-reaches
 returns-then-reaches c =
     let face = face-over-end c.requires.1 c.requires.3 c.first_furthest-here.ensures c.count-n.ensures
-    c.if-here-eq0.true c.if-n-gt2.true
+    c.if-here-eq0.true (omega arith)
     (sym (test-is c.before.before.before.before _ c.reaches.ensures) ∙ c.if-reaches.true) in
     record { first_value = face.0; last_value = face.1; value_value = value-is c.before.before.before.before.before }
 
@@ -86,8 +85,8 @@ not-over-end : (c : Joined-here-eq0) → let args = c.args in
     c.first_furthest-here.result ≡ 0 → 2 < c.count-n.result
     → is_furthest (at args.d) (points args.list.now) (c.count-n.result - 1) ≡ false
 not-over-end c e h = elim c.if-here-eq0.branch [
-  | then-here-eq0+then-n-gt2+else-reaches w ↦ sym (test-is c.before _ w.reaches.ensures) ∙ w.if-reaches.false
-  | else-here-eq0 w ↦ elim w.else-here-eq0.either [ inl r ↦ absurd (omega (arith, h, r.1)) | inr r ↦ absurd (r e) ]
+  | goal.then-here-eq0+then-n-gt2+else-reaches w ↦ sym (test-is c.before _ w.reaches.ensures) ∙ w.if-reaches.false
+  | goal.else-here-eq0 w ↦ elim w.else-here-eq0.either [ inl r ↦ absurd (omega (arith, h, r.1)) | inr r ↦ absurd (r e) ]
 ]
 
 pub returns-else-reaches-2 : goal.returns-else-reaches-2

@@ -1,6 +1,6 @@
 -- `kept` meets its contract: the shape is not met, or not sooner, or a later record has its name, or it is kept.
 use mathlib.Core.Path.{◌≡◌, refl, sym, ◌∙◌, ap, ap₂}
-use mathlib.Core.Bool.{Bool, cond, ◌&&◌}
+use mathlib.Core.Bool.{Bool, true, cond, ◌&&◌}
 use Prim.Native.Nat.{ℕ}
 use Rattle.contact.specs.declared.drive.Meeting.{Meeting}
 use Rattle.drives.specs.Search.{is_sooner, kept_of}
@@ -29,4 +29,4 @@ returns c =
     let best = c.args.best in
     ap (λ (n : ℕ). Soonest.At n c.in-At.numerator c.in-At.denominator c.in-At.safe) (sym c.head_at.ensures.name-is)
     ∙ kept_by _ _ _ _ _ best c.in-At.is (sym c.is_sooner.ensures ∙ c.if-not-is_sooner.false)
-    (sym c.is_current.ensures ∙ c.if-not-is_current.false)
+    (sym c.is_current.ensures ∙ (let current : c.is_current.result ≡ true = cc in current))

@@ -1,6 +1,6 @@
 -- `kept` meets its contract: the shape is not nearer, or a later record has its name, or it is kept.
 use mathlib.Core.Path.{◌≡◌, refl, sym, ◌∙◌, ap₂}
-use mathlib.Core.Bool.{Bool, cond, ◌&&◌}
+use mathlib.Core.Bool.{Bool, true, cond, ◌&&◌}
 use Prim.Native.Nat.{ℕ}
 use Rattle.neighbours.specs.Spacing.{fraction_of}
 use Rattle.neighbours.specs.Search.{is_nearer, kept_of}
@@ -28,4 +28,4 @@ pub returns : goal.returns
 returns c =
     let args = c.args in
     kept_by _ args.name args.spacing args.best (sym c.is_nearer.ensures ∙ c.if-not-is_nearer.false)
-    (sym c.is_current.ensures ∙ c.if-not-is_current.false)
+    (sym c.is_current.ensures ∙ (let current : c.is_current.result ≡ true = cc in current))

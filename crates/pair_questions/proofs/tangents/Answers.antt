@@ -11,6 +11,7 @@ use Rattle.plane.specs.Separation.{apart}
 use Rattle.plane.specs.Tangent.{tangent_from, tangent_to}
 use Rattle.plane.specs.Floor.{Floored, on, Same}
 use Rattle.plane.specs.Question.{ask_tangents}
+use Rattle.separation.specs.declared.answer.Relation.TheVariants.{Apart}
 use Rattle.separation.specs.Answer.{number_of}
 use Rattle.separation.specs.theory.Around.{related-apart}
 use Rattle.tangents.specs.theory.TangentSearch.{tangent-within}
@@ -44,7 +45,7 @@ pub returns-in_default-place : goal.returns-in_default-place
 returns-in_default-place c =
     let q = ask_tangents (one (goal.at.returns-in_default-place c).Start) (other (goal.at.returns-in_default-place c).Start) in
     (rest-refused q (shapes (goal.at.returns-in_default-place c).In_default) (refuses {rows = q.rest}
-    (here (ap not (not-apart _ _ c.relation-place.result c.in_default-place.not-Apart c.relation-place.ensures))))).0
+    (here (ap not (let other : c.relation-place.result ≡ Apart → ⊥ = assumption in not-apart _ _ c.relation-place.result other c.relation-place.ensures))))).0
 
 -- past the relation the shapes are apart
 ready : (c : In-Apart) → let args = c.args in

@@ -20,8 +20,8 @@ use Rattle.separation.specs.Passing.{Strode}
 use Rattle.separation.specs.theory.Image.{image-begun, image-few}
 use Rattle.separation.proofs.Striding.{strode-start, strode-at, strode-first, strode-second, strode-both, strode-same, goes_on}
 use Rattle.separation.proofs.stride.stride.Goals as goal
-use Rattle.separation.proofs.stride.stride.Goals.{After-order-c, At-loop-from, Joined-c-gt0, Start, then-c-gt0+else-moment-le0}
-use Rattle.separation.proofs.stride.stride.Goals.{else-c-gt0+then-c-lt0+else-moment-le0-2, else-c-gt0+else-c-lt0+else-joint_moment-le0}
+use Rattle.separation.proofs.stride.stride.Goals.{After-order-c, At-loop-from, Joined-c-gt0, Start, then-c-gt0+else-stays}
+use Rattle.separation.proofs.stride.stride.Goals.{else-c-gt0+then-c-lt0+else-moment-le0, else-c-gt0+else-c-lt0+else-joint_moment-le0}
 
 pub side_at-s-requires : goal.side_at-s-requires
 side_at-s-requires c = (omega arith, c.requires.0.in_range, c.requires.0.shape.some)
@@ -93,20 +93,20 @@ second-ahead : (c : At-loop-from) → let args = c.args in
     Valid args.b.now × Peak (points args.b.now) args.top × Carried (image args.b.now) t × (t.at + 2 < t.end)
 second-ahead c = let pre = c.requires in (pre.1, pre.2, c.loop-from.invariant.0.second-side, c.loop-from.invariant.2)
 
-pub moment-requires : goal.moment-requires
-moment-requires c = let f = fit c.before in (f.0, f.1)
+pub moment-stays-requires : goal.moment-stays-requires
+moment-stays-requires c = let f = fit c.before in (f.0, f.1)
 
-pub returns-then-moment-le0 : goal.returns-then-moment-le0
-returns-then-moment-le0 c = c.loop-from.invariant.0
+pub returns-then-stays : goal.returns-then-stays
+returns-then-stays c = c.loop-from.invariant.0
 
 pub ahead-s-requires : goal.ahead-s-requires
 ahead-s-requires c = first-ahead c.before.before.before.before.before
 
-pub moment-requires-then-c-lt0 : goal.moment-requires-then-c-lt0
-moment-requires-then-c-lt0 c = let f = fit c.before.before in (f.0, f.2)
+pub moment-requires : goal.moment-requires
+moment-requires c = let f = fit c.before.before in (f.0, f.2)
 
-pub returns-then-moment-le0-2 : goal.returns-then-moment-le0-2
-returns-then-moment-le0-2 c = c.loop-from.invariant.0
+pub returns-then-moment-le0 : goal.returns-then-moment-le0
+returns-then-moment-le0 c = c.loop-from.invariant.0
 
 pub ahead-t-requires : goal.ahead-t-requires
 ahead-t-requires c = second-ahead c.before.before.before.before.before.before
@@ -146,9 +146,9 @@ further c =
     let p = inv.0 in
     let product = result-is w64 c.order-c.type_inv c.order-c.ensures in
     elim c.if-c-gt0.branch [
-      | then-c-gt0+else-moment-le0 w ↦ (
-        strode-same w.s-is w.t-is w.joined-is (strode-first p product c.here-from.ensures w.if-moment-le0.false inv.1 inv.2
-            w.if-c-gt0.true (result-is w64 w.moment.type_inv w.moment.ensures) _ w.ahead-s.ensures.0 w.ahead-s.ensures.1),
+      | then-c-gt0+else-stays w ↦ (
+        strode-same w.s-is w.t-is w.joined-is (strode-first p product c.here-from.ensures w.if-stays.false inv.1 inv.2
+            w.if-c-gt0.true (result-is w64 w.moment-stays.type_inv w.moment-stays.ensures) _ w.ahead-s.ensures.0 w.ahead-s.ensures.1),
         omega (
           arith,
           ap (λ (z : Side). z.at) w.s-is,
@@ -158,9 +158,9 @@ further c =
           goes_on p.first-side inv.1 w.ahead-s.ensures.0,
         ),
       )
-      | else-c-gt0+then-c-lt0+else-moment-le0-2 w ↦ (
-        strode-same w.s-is w.t-is w.joined-is (strode-second p product c.here-from.ensures w.if-moment-le0-2.false inv.1 inv.2
-            w.if-c-lt0.true (result-is w64 w.moment-then-c-lt0.type_inv w.moment-then-c-lt0.ensures) _ w.ahead-t.ensures.0
+      | else-c-gt0+then-c-lt0+else-moment-le0 w ↦ (
+        strode-same w.s-is w.t-is w.joined-is (strode-second p product c.here-from.ensures w.if-moment-le0.false inv.1 inv.2
+            w.if-c-lt0.true (result-is w64 w.moment.type_inv w.moment.ensures) _ w.ahead-t.ensures.0
             w.ahead-t.ensures.1),
         omega (
           arith,
