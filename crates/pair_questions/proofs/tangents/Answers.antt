@@ -43,9 +43,10 @@ relation-place-requires c = let both = shapes c in (both.first-valid, both.secon
 
 pub returns-in_default-place : goal.returns-in_default-place
 returns-in_default-place c =
+    let not-first : c.relation-place.result ≡ Apart → ⊥ = assumption in
     let q = ask_tangents (one (goal.at.returns-in_default-place c).Start) (other (goal.at.returns-in_default-place c).Start) in
     (rest-refused q (shapes (goal.at.returns-in_default-place c).In_default) (refuses {rows = q.rest}
-    (here (ap not (let other : c.relation-place.result ≡ Apart → ⊥ = assumption in not-apart _ _ c.relation-place.result other c.relation-place.ensures))))).0
+    (here (ap not (not-apart _ _ c.relation-place.result not-first c.relation-place.ensures))))).0
 
 -- past the relation the shapes are apart
 ready : (c : In-Apart) → let args = c.args in
