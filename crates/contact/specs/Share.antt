@@ -8,7 +8,7 @@
 --     exceed f g            f and g, parts of a way from its two ends, are together more than the way
 --     box_corner h l d       the corner furthest in direction d of the box with these greatest coordinates, h of points and l of opposites
 --     is_past h l d p q      p and q are further in direction d than that; is_beside h l d p q: or both in the opposite direction
-use Rattle.std.specs.Prelude.{◌≡◌, Bool, false, cond, ◌&&◌, ◌||◌, List, [], ◌∷◌, ℕ, suc, ◌+◌, ltb, ℤ, pos, neg_ℤ, ◌-ℤ◌, ◌*ℤ◌, length}
+use Rattle.std.specs.Prelude.{◌≡◌, Bool, false, cond, ◌&&◌, ◌||◌, List, [], ◌∷◌, ℕ, suc, ◌+◌, ltb, ℤ, pos, neg_ℤ, ◌-ℤ◌, ◌*ℤ◌, length, Option, Some, None}
 use Rattle.std.specs.Int.Signed.{lt_z}
 use Rattle.plane.specs.Limits.{max_coordinate}
 use Rattle.plane.specs.Point.{Point, point, opposite}
@@ -28,9 +28,9 @@ pub record Places (t u : Point) : Type 0 where
   pub from-near : Small max_coordinate t
   pub to-near : Small max_coordinate u
 
-abbrev pub meeting_numbers : Meeting → List ℤ
-meeting_numbers Meeting.Never = pos 0 ∷ []
-meeting_numbers (Meeting.At n d safe) = pos 1 ∷ pos n ∷ pos d ∷ pos safe ∷ []
+abbrev pub meeting_numbers : Option Meeting → List ℤ
+meeting_numbers None = pos 0 ∷ []
+meeting_numbers (Some m) = pos 1 ∷ pos m.numerator ∷ pos m.denominator ∷ pos m.safe ∷ []
 
 abbrev pub last_wall : Point → Point → List Point → ℕ → Fraction
 last_wall t u G i = cond (ltb (length G) 3) (last_entry (entry t u G) (4 + i)) (last_entry (λ j. entry t u G (suc (suc (suc (suc j))))) i)

@@ -12,8 +12,8 @@ use Rattle.integer.specs.Order.{weaken, le_z-true, le_z-false}
 use Rattle.integer.specs.Machine.{machine, bounded, machine-fits, machine-is}
 use Rattle.plane.specs.Distance.{over}
 use Rattle.contact.proofs.theory.Words.{entering-begun, entering-inside, entering-never}
-use Rattle.contact.proofs.share.entering.Goals as goal
-use Rattle.contact.proofs.share.entering.Goals.{After-magnitude, Then-b-le0}
+use Rattle.contact.proofs.share.Share.entering.Goals as goal
+use Rattle.contact.proofs.share.Share.entering.Goals.{After-magnitude, Then-b-le0}
 
 pub returns-then-a-le0 : goal.returns-then-a-le0
 returns-then-a-le0 c = entering-begun _ _ (le_z-true (rw (to_z-of_z {w = w64} c.ranges.a) at c.if-a-le0.true))
@@ -47,6 +47,6 @@ returns-then-b-le0 c =
     ap₂ over (sym c.magnitude.ensures ∙ to_z-of_z {w = w64} c.ranges.a) (sym c.magnitude-then-b-le0.ensures ∙ step c.before)
     ∙ entering-inside _ _ held.0 held.1
 
-pub returns : goal.returns
-returns c = entering-never _ _ (le_z-false (rw (to_z-of_z {w = w64} c.ranges.a) at c.if-a-le0.false))
+pub returns-else-b-le0 : goal.returns-else-b-le0
+returns-else-b-le0 c = entering-never _ _ (le_z-false (rw (to_z-of_z {w = w64} c.ranges.a) at c.if-a-le0.false))
     (le_z-false (rw (to_z-of_z {w = w64} c.ranges.b) at c.if-b-le0.false))

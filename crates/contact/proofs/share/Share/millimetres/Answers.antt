@@ -6,7 +6,7 @@ use native.Mathlib.Omega.{arith}
 use mir.Syntax.{w64}
 use mir.Val.{Fits}
 use Rattle.contact.proofs.theory.Found.{spanned-start, spanned-down, spanned-up, spanned-end}
-use Rattle.contact.proofs.share.millimetres.Goals as goal
+use Rattle.contact.proofs.share.Share.millimetres.Goals as goal
 
 -- a square of at most 2^22
 square-fits : (m : ℕ) → m ≤ 4_194_304 → Fits w64 (m * m)

@@ -7,12 +7,12 @@ use lib.IntN.{pos}
 use Rattle.plane.specs.Distance.{over}
 use Rattle.divisor.specs.Euclid.{gcd-positive}
 use Rattle.contact.proofs.theory.Found.{lowest-words}
-use Rattle.contact.proofs.share.lowest.Goals as goal
-use Rattle.contact.proofs.share.lowest.Goals.{After-divisor-g}
+use Rattle.contact.proofs.share.Share.lowest.Goals as goal
+use Rattle.contact.proofs.share.Share.lowest.Goals.{After-divisor-g}
 
 positive : (c : After-divisor-g) → 0 < c.divisor-g.result
 positive c =
-    let f = c.args.f in
+    let f = c.args.self in
     omega (arith, c.divisor-g.ensures, gcd-positive f.numerator f.denominator (inr c.requires))
 
 pub nonzero_div-result : goal.nonzero_div-result
@@ -23,6 +23,6 @@ nonzero_div-result-2 c = positive c.before.before
 
 pub returns : goal.returns
 returns c =
-    let f = c.args.f in
+    let f = c.args.self in
     ap (λ (g : ℕ). over (pos (f.numerator / g)) (pos (f.denominator / g))) c.divisor-g.ensures
     ∙ lowest-words f.numerator f.denominator
