@@ -63,23 +63,19 @@ pub fn preceded(value: u64, reply: Reply) -> Reply
 pub fn flag(yes: bool) -> u64
     ensures { pos result ≡ cond yes (pos 1) (pos 0) }
 {
-    if yes { 1 } else { 0 }
+    u64::from(yes)
 }
 
-// Returns the bits of a number. A cast keeps numbers and not bits, so one below 0 is turned over: as a number before
-// the cast, as bits after it.
+// Returns the bits of a number.
 pub fn bits(z: i64) -> u64
     ensures { result ≡ told_bits z }
 {
-    if z < 0 {
-        return !((-1 - z) as u64);
-    }
-    z as u64
+    z.cast_unsigned()
 }
 
 // Returns the 64 bits of a number of 32.
 pub fn extended(z: i32) -> u64
     ensures { result ≡ told_bits z }
 {
-    bits(z as i64)
+    bits(i64::from(z))
 }

@@ -2,7 +2,7 @@
 --     told-padded     numbers before as many zeros as are left are the padded list
 --     told-bits       numbers as whole numbers, and then as bits, are the numbers
 use Rattle.std.specs.Prelude.{◌≡◌, refl, List, [], ◌∷◌, ◌++◌, map, ℕ, zero, suc, ◌≤◌, pos, length, drop}
-use Rattle.std.proofs.Common.{sym, ◌∙◌, ap, ap₂, arith}
+use Rattle.std.proofs.Common.{ap, arith}
 use Rattle.wire.specs.Told.{padded, bits}
 
 pub told-padded : (k : ℕ) (l : List ℕ) → length l ≤ k → l ++ drop (length l) (padded k []) ≡ padded k l

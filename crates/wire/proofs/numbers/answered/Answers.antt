@@ -1,7 +1,7 @@
 -- `answered` meets its contract: the values are written at the front of nine zeros.
-use Rattle.std.proofs.Common.{◌≡◌, sym, ◌∙◌, ap, ap₂, List, [], ◌∷◌, ◌++◌, map, ℕ, ◌≤◌, pos, length, drop}
+use Rattle.std.proofs.Common.{◌≡◌, sym, ◌∙◌, ap, ap₂, List, [], ◌∷◌, ◌++◌, ℕ, ◌≤◌, pos, length, drop}
 use Rattle.std.proofs.lemmas.List.{length-map, length-take-le}
-use Rattle.wire.specs.Told.{padded, bits}
+use Rattle.wire.specs.Told.{padded}
 use Rattle.wire.specs.theory.Padded.{told-padded, told-bits}
 use Rattle.wire.proofs.numbers.answered.Goals as goal
 
