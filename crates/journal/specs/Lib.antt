@@ -1,5 +1,6 @@
 -- A log of shapes (the paper's floor book): its records, reading, adding, and histories.
 pub mod Format
+pub mod Kind
 pub mod Reading
 pub mod Current
 pub mod Adding

@@ -8,16 +8,9 @@ ghost use Rattle.journal.specs.Marks.{Marked};
 use crate::head::Head;
 use crate::{head, marks, records};
 
-// What the current record at a position says, or that there are too few.
-#[derive(Clone, Copy)]
-pub enum Listed {
-    At(Head),
-    Few,
-}
-
-// Returns what the current record at a position says. Positions count from 0, in the order of the log.
+// Returns what the current record at a position says, if there are as many. Positions count from 0, in the order of the log.
 // Ruled out: older record of a name counted; floor before latest.
-pub fn entry(log: &[u8], k: usize) -> Listed
+pub fn entry(log: &[u8], k: usize) -> Option<Head>
     requires { damaged (records log.now) ≡ false }
     ensures { Entered log.now k result }
 {
@@ -30,7 +23,7 @@ pub fn entry(log: &[u8], k: usize) -> Listed
 }
 
 // The same, with a table of the log's last places, or with an empty one.
-fn nth(log: &[u8], k: usize, table: &[u32]) -> Listed
+fn nth(log: &[u8], k: usize, table: &[u32]) -> Option<Head>
     requires { (damaged (records log.now) ≡ false) × Marked log.now table.now 0 }
     ensures { Entered log.now k result }
 {
@@ -39,13 +32,13 @@ fn nth(log: &[u8], k: usize, table: &[u32]) -> Listed
     while records::whole_at(log, p) {
         if is_latest(log, p, table) {
             if left == 0 {
-                return Listed::At(head::head_at(log, p));
+                return Some(head::head_at(log, p));
             }
             left -= 1;
         }
         p = records::next_at(log, p);
     }
-    Listed::Few
+    None
 }
 
 // Whether no later record has the name of the record at a place. A record at its place of the table, or after it, is
@@ -57,10 +50,10 @@ pub fn is_latest(log: &[u8], p: usize, table: &[u32]) -> bool
         (records (drop (next_at log.now p) log.now))) }
 {
     let name = endian::pair_at(log, p + 4);
-    if table.len() <= name % marks::PLACES {
+    let Some(&last) = table.get(name % marks::PLACES) else {
         return is_current(log, p);
-    }
-    let last = table[name % marks::PLACES] as usize;
+    };
+    let last = last as usize;
     if last <= p {
         return true;
     }

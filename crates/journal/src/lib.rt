@@ -5,6 +5,7 @@
 mod corners;
 pub mod current;
 pub mod head;
+pub mod kind;
 pub mod latest;
 pub mod marks;
 pub mod records;

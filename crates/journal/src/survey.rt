@@ -11,15 +11,14 @@ const SHORT: usize = 1024;
 // The most numbers in a record of such a log.
 const SHORT_NUMBERS: usize = 256;
 
-// Where the last whole record ends, if no record is bad; else where the first bad record is.
+// Where the first bad record of a log is.
 #[derive(Clone, Copy)]
-pub enum Surveyed {
-    Ends(usize),
-    Bad(usize),
+pub struct Damaged {
+    pub place: usize,
 }
 
-// Goes over all whole records and judges the corners of each.
-pub fn survey(log: &[u8]) -> Surveyed
+// Goes over all whole records and judges the corners of each. Returns where the last whole record ends, if none is bad.
+pub fn survey(log: &[u8]) -> Result<usize, Damaged>
     ensures { result ≡ surveyed log.now }
 {
     if log.len() <= SHORT {
@@ -31,16 +30,16 @@ pub fn survey(log: &[u8]) -> Surveyed
 }
 
 // The same, with a buffer that holds the numbers of any shape in the log.
-fn pass(log: &[u8], buffer: &mut [i32]) -> Surveyed
+fn pass(log: &[u8], buffer: &mut [i32]) -> Result<usize, Damaged>
     requires { Ample log.now buffer.old }
     ensures { result ≡ surveyed log.now }
 {
     let mut p = 0;
     while records::whole_at(log, p) {
         if records::bad_at(log, p, buffer) {
-            return Surveyed::Bad(p);
+            return Err(Damaged { place: p });
         }
         p = records::next_at(log, p);
     }
-    Surveyed::Ends(p)
+    Ok(p)
 }

@@ -1,6 +1,7 @@
 -- `latest` meets its contract. The invariant: what is found up to p, and what is still to come; the measure is what is left.
 use mathlib.Core.Path.{◌≡◌, sym, ◌∙◌, subst}
 use mathlib.Core.Bool.{true}
+use Rattle.std.specs.Prelude.{Option}
 use Prim.Native.Nat.{ℕ}
 use native.Mathlib.Omega.{arith}
 use lib.ListN.{drop}
@@ -37,7 +38,7 @@ loop-found-smaller c =
 pub loop-found-preserved : goal.loop-found-preserved
 loop-found-preserved c =
     let args = c.args in
-    subst (λ (r : Found). SoFar args.name args.log.now c.next_at-p.result r) (sym c.newer-found.ensures)
+    subst (λ (r : Option Found). SoFar args.name args.log.now c.next_at-p.result r) (sym c.newer-found.ensures)
     (subst (λ (q : ℕ). SoFar args.name args.log.now q (newer args.name c.head_at.result c.loop-found.found))
     (sym c.next_at-p.ensures)
     (so-far-next c.loop-found.invariant (here (goal.at.loop-found-preserved c).In-loop-found) c.head_at.ensures))
