@@ -12,11 +12,11 @@ use Rattle.journal.proofs.theory.Kind.{known-kind, plain-bytes}
 use Rattle.journal.proofs.theory.Records.{whole→facts}
 use Rattle.journal.proofs.theory.Survey.{size-at, kind_at, next-inside, eighth, bad-short, bad_kind, bad-small, bad-length, bad-shape}
 use Rattle.journal.proofs.records.bad_at.Goals as goal
-use Rattle.journal.proofs.records.bad_at.Goals.{After-fixed_bytes-fixed, After-pair_at-number, After-pair_at-size, After-shared_slice_known-1}
+use Rattle.journal.proofs.records.bad_at.Goals.{After-fixed_bytes-fixed, After-pair_at-number, After-pair_at-size, Start}
 use Rattle.journal.proofs.records.bad_at.Goals.{Else-size-fixed, Else-size-fixed_bytes, In-Some}
 
 -- the record is inside the log
-inside : (c : After-shared_slice_known-1) → let args = c.args in
+inside : (c : Start) → let args = c.args in
     args.p + (2 + size (drop args.p args.log.now)) ≤ length args.log.now
 inside c = next-inside _ c.args.p c.requires.0
 
@@ -61,7 +61,7 @@ rest : (c : After-fixed_bytes-fixed) →
 rest c = ap₂ (λ (n k : ℕ). n - k) (size-read (goal.at.After-fixed_bytes-fixed c).After-pair_at-size) (fixed-read c)
 
 pub pair_at-size-requires : goal.pair_at-size-requires
-pair_at-size-requires c = omega (arith, inside c, (whole→facts _ c.requires.0).some)
+pair_at-size-requires c = omega (arith, inside (goal.at.pair_at-size-requires c).Start, (whole→facts _ c.requires.0).some)
 
 pub returns-then-size-fixed_bytes : goal.returns-then-size-fixed_bytes
 returns-then-size-fixed_bytes c = (
@@ -71,10 +71,10 @@ returns-then-size-fixed_bytes c = (
 )
 
 pub overflow_add-p : goal.overflow_add-p
-overflow_add-p c = omega (arith, inside (goal.at.overflow_add-p c).After-shared_slice_known-1)
+overflow_add-p c = omega (arith, inside (goal.at.overflow_add-p c).Start)
 
 pub pair_at-number-requires : goal.pair_at-number-requires
-pair_at-number-requires c = omega (arith, inside (goal.at.pair_at-number-requires c).After-shared_slice_known-1, least c)
+pair_at-number-requires c = omega (arith, inside (goal.at.pair_at-number-requires c).Start, least c)
 
 pub returns-in_default : goal.returns-in_default
 returns-in_default c =
@@ -99,20 +99,20 @@ returns-then-size-fixed-ne0 c =
 
 pub overflow_add-p-2 : goal.overflow_add-p-2
 overflow_add-p-2 c = omega
-    (arith, inside (goal.at.overflow_add-p-2 c).After-shared_slice_known-1, least (goal.at.overflow_add-p-2 c).Else-size-fixed_bytes)
+    (arith, inside (goal.at.overflow_add-p-2 c).Start, least (goal.at.overflow_add-p-2 c).Else-size-fixed_bytes)
 
 pub overflow_add-p-3 : goal.overflow_add-p-3
 overflow_add-p-3 c =
     omega (
       arith,
-      inside (goal.at.overflow_add-p-3 c).After-shared_slice_known-1,
+      inside (goal.at.overflow_add-p-3 c).Start,
       long (goal.at.overflow_add-p-3 c).Else-size-fixed,
       fixed-read (goal.at.overflow_add-p-3 c).After-fixed_bytes-fixed,
     )
 
 pub is_shape_at-requires : goal.is_shape_at-requires
 is_shape_at-requires c =
-    let fits = inside (goal.at.is_shape_at-requires c).After-shared_slice_known-1 in
+    let fits = inside (goal.at.is_shape_at-requires c).Start in
     let same = size-read (goal.at.is_shape_at-requires c).After-pair_at-size in
     let fixed = fixed-read (goal.at.is_shape_at-requires c).After-fixed_bytes-fixed in
     let big = long (goal.at.is_shape_at-requires c).Else-size-fixed in
