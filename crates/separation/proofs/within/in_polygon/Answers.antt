@@ -15,7 +15,7 @@ use Rattle.plane.proofs.theory.lists.Sought.{true-not-false}
 use Rattle.calipers.specs.theory.Carry.{first_next, second-next, corners-fit, edges_fit}
 use Rattle.separation.proofs.Beside.{beside-start, is_right, beside-right, beside-more, beside-less, beside-all}
 use Rattle.separation.proofs.within.in_polygon.Goals as goal
-use Rattle.separation.proofs.within.in_polygon.Goals.{In-loop-t, Joined-passes, then-passes+else-turn-lt0, else-passes}
+use Rattle.separation.proofs.within.in_polygon.Goals.{In-loop-t, Joined-else-passes, else-passes-via-else-passes, else-passes-via-then-passes+else-turn-lt0}
 
 pub count-n-requires : goal.count-n-requires
 count-n-requires c = tt
@@ -73,11 +73,11 @@ loop-t-smaller c =
     (result-is w64 c.order-c.type_inv c.order-c.ensures) c.next-s.ensures.0 c.next-t.ensures.0
 
 -- where the edge is passed, the corner at hand is not to its right
-asked : (c : Joined-passes) →
+asked : (c : Joined-else-passes) →
     le_z (to_z w64 (of_z w64 c.order-c.result)) (pos 0) ≡ true → is_right c.loop-t.s c.loop-t.t ≡ false
-asked c e = elim c.if-passes.branch [
-  | then-passes+else-turn-lt0 w ↦ told w.turn.type_inv w.turn.ensures w.if-turn-lt0.false
-  | else-passes w ↦ true-not-false e w.if-passes.false
+asked c e = elim c.else-passes.branch [
+  | else-passes-via-then-passes+else-turn-lt0 w ↦ told w.turn.type_inv w.turn.ensures w.if-turn-lt0.false
+  | else-passes-via-else-passes w ↦ true-not-false e w.if-passes.false
 ]
 
 pub loop-t-preserved : goal.loop-t-preserved
