@@ -1,16 +1,15 @@
 -- `facing` meets its contract: a walk that begins at the first corner and finds no other place has found that corner.
 use mathlib.Core.Path.{◌≡◌, refl, sym, subst}
-use Prim.Native.Nat.{◌<◌, zero-le}
+use Prim.Native.Nat.{zero-le}
 use Rattle.std.specs.Prelude.{Option, Some, None, MatchOption}
 use Rattle.std.proofs.Common.{rules}
-use lib.ListN.{length}
 use Rattle.plane.specs.Point.{points, corner}
 use Rattle.plane.specs.VectorSum.{vector_sum}
 use Rattle.polygon.specs.Point.{at, Small}
 use Rattle.calipers.specs.Image.{image}
 use Rattle.separation.specs.theory.Image.{image-begun}
 use Rattle.separation.specs.theory.Stops.{on_below}
-use Rattle.clearance.specs.Stop.{Stopped, at_first}
+use Rattle.clearance.specs.Stop.{at_first}
 use Rattle.clearance.specs.Sight.{Looked}
 use Rattle.clearance.specs.declared.facing.Sight.{Sight}
 use Rattle.clearance.proofs.facing.facing.Goals as goal

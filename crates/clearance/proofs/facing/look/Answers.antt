@@ -1,7 +1,7 @@
 -- `look` meets its contract. The invariant: from wherever the walk began, all places that are passed fail, but for the corner there, which
 -- is kept; the measure: the edges that are left.
 use mathlib.Core.Path.{◌≡◌, refl, sym, ◌∙◌, ap, subst}
-use mathlib.Core.Bool.{Bool, false, true≢false, false≢true}
+use mathlib.Core.Bool.{Bool, false}
 use Prim.Native.Nat.{zero-le}
 use native.Mathlib.Omega.{arith}
 use mir.Syntax.{w64}
@@ -20,13 +20,11 @@ use Rattle.calipers.specs.theory.Carry.{here-near, first_next, corners-fit, edge
 use Rattle.calipers.specs.theory.Standing.{passed-ended, edges-less}
 use Rattle.calipers.specs.theory.Steps.{at-stepped}
 use Rattle.separation.specs.theory.Image.{image-begun, image-few, image-sides}
-use Rattle.separation.specs.theory.Stops.{corner-here}
 use Rattle.clearance.specs.Stop.{rests, crosses, Stopped}
-use Rattle.clearance.specs.Sight.{Nowhere}
 use Rattle.clearance.proofs.Looking.{Looking, looking-start, looking-at, looking-corner, looking-edge, looking-more, looking-end}
 use Rattle.clearance.proofs.facing.look.Goals as goal
 use Rattle.clearance.proofs.facing.look.Goals.{After-here-there, After-next-n}
-use Rattle.clearance.proofs.facing.look.Goals.{After-struct_known-in-walk-2-1, At-walk, Start}
+use Rattle.clearance.proofs.facing.look.Goals.{At-walk, Else-crosses, Start}
 
 -- the walk is where it begins
 starts : (c : Start) → At c.args.a.now (image c.args.b.now) begun
@@ -182,7 +180,7 @@ overflow_add-m c =
     omega (arith, image-few _ _ c.requires.0 c.requires.1)
 
 -- neither place at hand passes
-fails : (c : After-struct_known-in-walk-2-1) →
+fails : (c : Else-crosses) →
     let back = at c.walk.back in
     (rests back (at c.here-here.result) (at c.here-there.result) ≡ false)
     × (crosses (at c.here-here.result) (at c.here-there.result) ≡ false)
@@ -196,8 +194,8 @@ returns-then-m-n c = λ k below moved.
     looking-end (c.walk.invariant.0 k below moved) refl
     (advances (goal.at.returns-then-m-n c).After-next-n)
     (leaves (goal.at.returns-then-m-n c).After-here-there)
-    (arrives (goal.at.returns-then-m-n c).After-here-there _) (fails c.before).0
-    (fails c.before).1
+    (arrives (goal.at.returns-then-m-n c).After-here-there _) (fails (goal.at.returns-then-m-n c).Else-crosses).0
+    (fails (goal.at.returns-then-m-n c).Else-crosses).1
     (all-passed _ _ _ _ c.next-m.ensures.1.at_in c.next-n.ensures.1.at_in
     (c.if-m-n.true ∙ image-sides c.side_at-s.ensures.1 c.side_at-t.ensures.1))
 
@@ -229,7 +227,8 @@ walk-preserved c =
           (looking-more (c.walk.invariant.0 k below moved) refl
           (advances c.before.before.before.before.before.before.before.before.before)
           (leaves c.before.before.before.before.before.before.before) (arrives c.before.before.before.before.before.before.before _)
-          (fails c.before).0 (fails c.before).1),
+          (fails (goal.at.walk-preserved c).Else-crosses).0
+          (fails (goal.at.walk-preserved c).Else-crosses).1),
       c.next-m.ensures.1,
       c.next-n.ensures.1,
       small-wide (near c.before.before.before.before.before.before.before).0,
