@@ -1,6 +1,5 @@
 // Inner functions: how far apart the corners of a candidate are.
-ghost use Rattle.std.specs.Prelude.{◌≡◌, ◌^◌, ◌<◌, pos, nat_abs, length, ◌<ℤ◌};
-ghost use Rattle.integer.specs.Bound.{Within};
+ghost use Rattle.std.specs.Prelude.{◌≡◌, ◌^◌, ◌<◌, pos, length, ◌<ℤ◌};
 ghost use Rattle.plane.specs.Point.{points, corner};
 ghost use Rattle.plane.specs.Refusal.{InRange};
 ghost use Rattle.plane.specs.Measure.{squared, edge_squared};
@@ -105,22 +104,11 @@ fn across(a: &[i32], c: usize, b: &[i32], e: usize) -> Height
     let from = corners::corner_at(b, e);
     let to = corners::corner_at(b, rules::next(corners::count(b), e));
     let edge = point::step(from, to);
-    let turn = size(point::cross(edge, point::step(from, corners::corner_at(a, c))));
+    let turn = point::cross(edge, point::step(from, corners::corner_at(a, c))).unsigned_abs();
     let squared = magnitude::magnitude(point::squared(from, to));
     Height {
         turn,
         squared,
         rounded: wide::root_of_fraction(turn, squared),
     }
-}
-
-// A number without its sign.
-fn size(z: i64) -> u64
-    requires { Within (2 ^ 62) z }
-    ensures { result ≡ nat_abs z }
-{
-    if z < 0 {
-        return magnitude::magnitude(0 - z);
-    }
-    magnitude::magnitude(z)
 }

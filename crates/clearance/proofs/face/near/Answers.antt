@@ -58,15 +58,6 @@ value_at-other-requires c =
 pub lowest-requires : goal.lowest-requires
 lowest-requires c = let pre = c.requires in (pre.0, pre.1, pre.2)
 
-pub returns-then-one-own : goal.returns-then-one-own
-returns-then-one-own c = c.lowest.ensures
-
-pub lowest-requires-then-other-own : goal.lowest-requires-then-other-own
-lowest-requires-then-other-own c = let pre = c.requires in (pre.0, pre.1, pre.2)
-
-pub returns-then-other-own : goal.returns-then-other-own
-returns-then-other-own c = c.lowest-then-other-own.ensures
-
 -- what the tests say of the values
 not-less : {x y u v : ℤ} → u ≡ x → v ≡ y → lt_z u v ≡ false → y ≤ℤ x
 not-less p q e = lt_z-false (sym (ap₂ lt_z p q) ∙ e)
