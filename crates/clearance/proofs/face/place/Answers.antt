@@ -3,12 +3,6 @@ use native.Mathlib.Omega.{arith}
 use Rattle.plane.proofs.theory.lists.Flat.{points-length}
 use Rattle.clearance.proofs.face.place.Goals as goal
 
-pub count-n-requires : goal.count-n-requires
-count-n-requires c = tt
-
-pub returns-then-n-i : goal.returns-then-n-i
-returns-then-n-i c = c.requires
-
 pub overflow_add-k : goal.overflow_add-k
 overflow_add-k c =
     omega (arith, c.count-n.ensures, c.requires, c.if-n-i.false, points-length c.args.list.now)
