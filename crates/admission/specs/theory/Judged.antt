@@ -39,7 +39,7 @@ held j = j.valid refl
 pub refusal-of : {T : Type 0} {rows : List Row} {r : Refusal} → Judged T rows (Err r) → Refuses rows (of_refusal r)
 refusal-of j = j.no _ refl
 
-pub handed-on : {T : Type 0} (x : Result T Refusal) (r : Refusal) → IsErrAnd x (λ y. y ≡ r) → x ≡ Err r
+pub handed-on : {T E : Type 0} (x : Result T E) (r : E) → IsErrAnd x (λ y. y ≡ r) → x ≡ Err r
 handed-on x r h = let p = err_from_is_err_and x h in p.1 ∙ ap (λ y. Err y) p.2
 
 pub hands-on : {T : Type 0} {rows : List Row} (x : Result Unit Refusal) (r : Refusal) → IsErrAnd x (λ y. y ≡ r) → Refuses rows (of_refusal r)
