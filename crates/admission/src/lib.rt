@@ -44,7 +44,7 @@ fn blamed(list: &[i32], shape: usize) -> Result<(), Refusal>
     if rules::some_outside(list) {
         return Err(Refusal::Range { shape });
     }
-    if let Broken::At { edge, corner } = rules::first_broken(list) {
+    if let Some(Broken { edge, corner }) = rules::first_broken(list) {
         return Err(Refusal::Side {
             shape,
             edge,
