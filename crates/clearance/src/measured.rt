@@ -4,7 +4,7 @@ ghost use Rattle.plane.specs.Point.{points, corner};
 ghost use Rattle.plane.specs.Refusal.{InRange};
 ghost use Rattle.plane.specs.Measure.{squared, edge_squared};
 ghost use Rattle.plane.specs.Clearance.{corners, turn_on, numbers_of};
-ghost use Rattle.clearance.specs.Answer.{candidate_of, values_of, Measurable, HasSize};
+ghost use Rattle.clearance.specs.Answer.{candidate_of, values_of, ratio_of, Measurable, HasSize};
 
 use crate::reach::Pair;
 use measure::magnitude;
@@ -34,6 +34,30 @@ pub enum Distance {
         squared: u64,
         rounded: u64,
     },
+}
+
+// A distance as the root of turn·turn/squared.
+#[derive(Clone, Copy)]
+pub struct Ratio {
+    pub turn: u64,
+    pub squared: u64,
+}
+
+impl Distance {
+    // Two corners at the squared distance d are at d·d/d.
+    pub fn ratio(self) -> Ratio
+        ensures { result ≡ ratio_of self }
+    {
+        match self {
+            Distance::Corners { squared, .. } => Ratio {
+                turn: squared,
+                squared,
+            },
+            Distance::OnSecond { turn, squared, .. } | Distance::OnFirst { turn, squared, .. } => {
+                Ratio { turn, squared }
+            }
+        }
+    }
 }
 
 // The height of a corner over an edge: the size of its turn, the squared length of the edge, and the root rounded down.
