@@ -7,6 +7,7 @@ pub mod Adding
 pub mod Facts
 pub mod History
 pub mod Survey
+pub mod Places
 pub mod Marks
 pub mod Allowance
 pub mod Cases

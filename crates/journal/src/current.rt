@@ -6,7 +6,7 @@ ghost use Rattle.journal.specs.Survey.{record_at, next_at, Sound, Reached, Enter
 ghost use Rattle.journal.specs.Marks.{Marked};
 
 use crate::head::Head;
-use crate::{head, marks, records};
+use crate::{head, marks, places, records};
 
 // Returns what the current record at a position says, if there are as many. Positions count from 0, in the order of the log.
 // Ruled out: older record of a name counted; floor before latest.
@@ -28,15 +28,13 @@ fn nth(log: &[u8], k: usize, table: &[u32]) -> Option<Head>
     ensures { Entered log.now k result }
 {
     let mut left = k;
-    let mut p = 0;
-    while records::whole_at(log, p) {
+    for p in places::all(log) {
         if is_latest(log, p, table) {
             if left == 0 {
                 return Some(head::head_at(log, p));
             }
             left -= 1;
         }
-        p = records::next_at(log, p);
     }
     None
 }
@@ -77,12 +75,10 @@ fn is_held(log: &[u8], from: usize, name: usize) -> bool
     requires { Reached log.now from }
     ensures { result ≡ held name (records (drop from log.now)) }
 {
-    let mut p = from;
-    while records::whole_at(log, p) {
+    for p in places::from(log, from) {
         if endian::pair_at(log, p + 4) == name {
             return true;
         }
-        p = records::next_at(log, p);
     }
     false
 }

@@ -5,7 +5,7 @@ ghost use Rattle.journal.specs.Reading.{damaged};
 ghost use Rattle.journal.specs.Survey.{Latest, newer as survey_newer};
 
 use crate::head::Head;
-use crate::{head, records};
+use crate::{head, places};
 
 // Where the numbers of the latest record of a name are, how many they are, and the floor of the record.
 #[derive(Clone, Copy)]
@@ -22,10 +22,8 @@ pub fn latest(log: &[u8], name: u16) -> Option<Found>
     ensures { Latest name log.now result }
 {
     let mut found = None;
-    let mut p = 0;
-    while records::whole_at(log, p) {
+    for p in places::all(log) {
         found = newer(head::head_at(log, p), name, found);
-        p = records::next_at(log, p);
     }
     found
 }

@@ -8,5 +8,6 @@ pub mod head;
 pub mod kind;
 pub mod latest;
 pub mod marks;
+pub mod places;
 pub mod records;
 pub mod survey;

@@ -4,7 +4,7 @@ ghost use Rattle.journal.specs.Format.{records};
 ghost use Rattle.journal.specs.Reading.{damaged};
 ghost use Rattle.journal.specs.Marks.{Marked};
 
-use crate::records;
+use crate::places;
 
 // How many places a table has: one for each value of a name's last ten bits.
 pub const PLACES: usize = 1024;
@@ -22,12 +22,10 @@ pub fn serves(log: &[u8]) -> bool
     if LONG <= log.len() {
         return false;
     }
-    let mut p = 0;
-    while records::whole_at(log, p) {
+    for p in places::all(log) {
         if SHORT <= p {
             return true;
         }
-        p = records::next_at(log, p);
     }
     false
 }
@@ -38,9 +36,7 @@ pub fn mark(log: &[u8], table: &mut [u32])
         × (length table.old ≡ 1024) }
     ensures { Marked log.now table.new 0 }
 {
-    let mut p = 0;
-    while records::whole_at(log, p) {
+    for p in places::all(log) {
         table[endian::pair_at(log, p + 4) % PLACES] = p as u32;
-        p = records::next_at(log, p);
     }
 }

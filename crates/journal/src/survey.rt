@@ -2,7 +2,7 @@
 ghost use Rattle.std.specs.Prelude.{◌≡◌};
 ghost use Rattle.journal.specs.Survey.{Ample, surveyed};
 
-use crate::records;
+use crate::{places, records};
 use polygon::limits;
 
 // The length of a log for which a smaller buffer is enough. It takes less time to clear.
@@ -34,12 +34,12 @@ fn pass(log: &[u8], buffer: &mut [i32]) -> Result<usize, Damaged>
     requires { Ample log.now buffer.old }
     ensures { result ≡ surveyed log.now }
 {
-    let mut p = 0;
-    while records::whole_at(log, p) {
-        if records::bad_at(log, p, buffer) {
-            return Err(Damaged { place: p });
+    let mut end = 0;
+    for place in places::all(log) {
+        if records::bad_at(log, place, buffer) {
+            return Err(Damaged { place });
         }
-        p = records::next_at(log, p);
+        end = records::next_at(log, place);
     }
-    Ok(p)
+    Ok(end)
 }

@@ -1,4 +1,4 @@
--- A loop over the records of a log, from a place p on: `while whole_at(log, p) { .. p = next_at(log, p); }`. Its invariant says
+-- A loop over the records of a log, from a place on: `for p in places::all(log) { .. }`, as `Walk.antt` has it. Its invariant says
 -- that p is reached (`Reached` of `Survey.antt`), and an equation about what is still to come, `records (drop p b)`.
 --     reached-start, reached-sound, reached-next    the loop begins; a record is here; it goes on
 --     records-step, records-end    how `records (drop p b)` goes on, and ends

@@ -1,11 +1,7 @@
-use Prim.Native.Nat.{◌-◌}
-use lib.ListN.{length}
 use Rattle.journal.specs.Marks.{Marked}
 use Rattle.journal.proofs.theory.Nth.{Nth}
+use Rattle.journal.proofs.theory.Walk.{On}
 use Rattle.journal.proofs.current.nth.Given as goal
 
-abbrev pub invariant-loop-k : goal.invariant-loop-k
-invariant-loop-k l = Nth l.k l.log l.p l.left × Marked l.log l.table l.p
-
-abbrev pub decreases-loop-k : goal.decreases-loop-k
-decreases-loop-k l = length l.log - l.p
+abbrev pub invariant-loop-p : goal.invariant-loop-p
+invariant-loop-p l = On l.log (λ p. Nth l.k l.log p l.left × Marked l.log l.table p) l.p-iterator
