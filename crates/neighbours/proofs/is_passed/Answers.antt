@@ -13,10 +13,10 @@ returns-in_default c k = absurd (true≢false (sym k))
 pub is_far-requires : goal.is_far-requires
 is_far-requires c =
     let pre = c.requires in
-    (pre.0, pre.1, subst NearSized c.in-Of.is pre.2)
+    (pre.0, pre.1, subst NearSized c.in-Some.is pre.2)
 
 pub returns : goal.returns
 returns c k A s x =
     let S = points c.args.shape.now in
-    ap (is_nearer (distance A S)) c.in-Of.is
+    ap (is_nearer (distance A S)) c.in-Some.is
     ∙ ap not (c.is_far.ensures k A S s c.requires.1.shape (λ g y. extends-spans x y))

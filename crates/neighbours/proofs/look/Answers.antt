@@ -1,5 +1,5 @@
 -- `look` meets its contract: the record is not asked for, or it is read and passed over, or measured, and then kept or not.
-use mathlib.Core.Path.{◌≡◌, sym, ◌∙◌, ap, subst}
+use mathlib.Core.Path.{◌≡◌, refl, sym, ◌∙◌, ap, subst}
 use mathlib.Core.Bool.{true, false, not, ◌&&◌}
 use mathlib.Core.List.{List}
 use Prim.Native.Nat.{◌*◌, ◌≤◌}
@@ -13,6 +13,7 @@ use Rattle.plane.specs.Point.{points}
 use Rattle.plane.specs.Refusal.{Valid}
 use Rattle.plane.specs.Clearance.{clearance_numbers}
 use Rattle.plane.specs.Distance.{distance}
+use Rattle.clearance.specs.theory.Replies.{spaced-numbers}
 use Rattle.extents.specs.theory.Gaps.{extends-bounded}
 use Rattle.endian.specs.Bytes.{words_at}
 use Rattle.endian.specs.theory.Bytes.{words_at-length}
@@ -100,7 +101,8 @@ pub kept-requires : goal.kept-requires
 kept-requires c =
     let pre = c.requires in (
       pre.0,
-      spacing-sized _ _ pre.1.shape (decoded-valid (goal.at.kept-requires c).After-buffer-1).shape c.between.result c.between.ensures,
+      spacing-sized _ _ pre.1.shape (decoded-valid (goal.at.kept-requires c).After-buffer-1).shape c.between.result
+          (spaced-numbers _ _ c.between.result c.between.ensures),
       pre.2,
     )
 
@@ -108,11 +110,11 @@ pub returns : goal.returns
 returns c =
     let args = c.args in
     let pre = c.requires in
-    let spaced = c.between.ensures ∙ ap (λ l. clearance_numbers (points args.list.now) (points l))
+    let spaced = spaced-numbers _ _ c.between.result c.between.ensures ∙ ap (λ l. clearance_numbers (points args.list.now) (points l))
     (decoded (goal.at.returns c).After-buffer-1) in (
       subst (Onward (points args.list.now) args.floor args.but args.log.now args.p args.best)
           (sym c.kept.ensures)
           (onward-kept pre.0 (stated-here (goal.at.returns c).After-decode-arg-1) args.floor args.but (points args.list.now)
-          args.best pre.1.shape (asked (goal.at.returns c).After-buffer-1) c.between.result spaced),
+          args.best pre.1.shape (asked (goal.at.returns c).After-buffer-1) _ refl spaced),
       decoded-length (goal.at.returns c).After-buffer-1,
     )

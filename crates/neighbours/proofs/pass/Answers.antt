@@ -1,17 +1,17 @@
 -- `pass` meets its contract. The invariant: what is found up to p, and what is still to come; the measure is what is left.
 use mathlib.Core.Path.{◌≡◌, sym, ◌∙◌, subst}
 use mathlib.Core.Bool.{true}
-use Prim.Native.Nat.{ℕ, ◌+◌, ◌≤◌}
+use Prim.Native.Nat.{ℕ}
 use native.Mathlib.Omega.{arith}
-use lib.ListN.{length, drop}
+use lib.ListN.{drop}
 use Rattle.plane.specs.Point.{points}
-use Rattle.journal.specs.Format.{size, whole}
+use Rattle.journal.specs.Format.{whole}
 use Rattle.journal.specs.Survey.{next_at}
-use Rattle.journal.proofs.theory.Survey.{size-at, next-inside}
+use Rattle.journal.proofs.theory.Survey.{next-inside}
 use Rattle.neighbours.specs.theory.Search.{Searched, searched-start, searched-sized, searched-sound, searched-next, searched-end}
 use Rattle.neighbours.specs.theory.Search.{searched-met}
 use Rattle.neighbours.proofs.pass.Goals as goal
-use Rattle.neighbours.proofs.pass.Goals.{After-look-best, After-pair_at, In-loop-extent}
+use Rattle.neighbours.proofs.pass.Goals.{After-look-best, In-loop-extent}
 
 -- there is a whole record here
 here : (c : In-loop-extent)
@@ -49,24 +49,14 @@ pub returns-then-is_met : goal.returns-then-is_met
 returns-then-is_met c =
     searched-met (looked (goal.at.returns-then-is_met c).After-look-best) c.requires.1.shape (sym c.is_met.ensures ∙ c.if-is_met.true)
 
--- the next place is past the record, and still inside
-step : (c : After-pair_at) →
-    let log = c.args.log.now in
-    (c.pair_at.result ≡ size (drop c.loop-extent.p log)) × (c.loop-extent.p + (2 + c.pair_at.result) ≤ length log)
-step c =
-    let log = c.args.log.now in
-    let same = c.pair_at.ensures.0 ∙ sym (size-at log c.loop-extent.p) in
-    (same, omega (arith, same, next-inside log c.loop-extent.p (here (goal.at.After-pair_at c).In-loop-extent)))
-
-pub pair_at-requires : goal.pair_at-requires
-pair_at-requires c =
-    omega (arith, next-inside _ c.loop-extent.p (here (goal.at.pair_at-requires c).In-loop-extent))
+pub next_at-p-requires : goal.next_at-p-requires
+next_at-p-requires c = here (goal.at.next_at-p-requires c).In-loop-extent
 
 pub loop-extent-preserved : goal.loop-extent-preserved
 loop-extent-preserved c =
     let args = c.args in (
-      subst (λ (k : ℕ). Searched (points args.list.now) args.floor args.but args.log.now (c.loop-extent.p + (2 + k))
-          c.look-best.result) (sym (step c).0) (looked (goal.at.loop-extent-preserved c).After-look-best),
+      subst (λ (q : ℕ). Searched (points args.list.now) args.floor args.but args.log.now q c.look-best.result)
+          (sym c.next_at-p.ensures) (looked (goal.at.loop-extent-preserved c).After-look-best),
       c.look-best.ensures.1,
     )
 
@@ -78,11 +68,6 @@ returns c =
     searched-end c.loop-extent.invariant.0 c.requires.1.shape
     (sym c.whole_at.ensures ∙ c.loop-extent-test.false)
 
-pub overflow_add-p : goal.overflow_add-p
-overflow_add-p c = omega (arith, c.pair_at.ensures.1)
-
-pub overflow_add-p-in-loop-extent : goal.overflow_add-p-in-loop-extent
-overflow_add-p-in-loop-extent c = omega (arith, (step c).1)
-
 pub loop-extent-smaller : goal.loop-extent-smaller
-loop-extent-smaller c = omega (arith, (step c).1)
+loop-extent-smaller c =
+    omega (arith, c.next_at-p.ensures, next-inside _ c.loop-extent.p (here (goal.at.loop-extent-smaller c).In-loop-extent))
