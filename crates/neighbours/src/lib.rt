@@ -101,10 +101,7 @@ fn is_passed(extent: Extent, shape: &[i32], best: Option<Near>) -> bool
     requires { Bounded extent × Valid shape.now × NearSized best }
     ensures { result ≡ true → NotNearer extent (points shape.now) best }
 {
-    let Some(held) = best else {
-        return false;
-    };
-    spacing::is_far(extent, shape, held.distance)
+    best.is_some_and(|held| spacing::is_far(extent, shape, held.distance))
 }
 
 // Returns whether a record is on the floor and has another name than `but`.
@@ -133,10 +130,7 @@ fn is_nearer(distance: Option<Distance>, best: Option<Near>) -> bool
     requires { Sized distance × NearSized best }
     ensures { result ≡ is_nearer (fraction_of distance) best }
 {
-    let Some(held) = best else {
-        return true;
-    };
-    spacing::is_less(distance, held.distance)
+    best.is_none_or(|held| spacing::is_less(distance, held.distance))
 }
 
 // Returns whether what was found meets the shape. Then no other is nearer.
