@@ -12,7 +12,7 @@ ghost use Rattle.journal.specs.Adding.{made};
 ghost use Rattle.packing.specs.Packing.{packed, mends_all};
 ghost use Rattle.packing.specs.Copying.{is_kept};
 
-use journal::{current, marks, records};
+use journal::{current, marks, places, records};
 
 // Returns the count of bytes of the packed log.
 pub fn packed_length(old: &[u8], but: usize) -> usize
@@ -33,13 +33,10 @@ fn measure(old: &[u8], but: usize, table: &[u32]) -> usize
     ensures { result ≡ length (packed old.now but) }
 {
     let mut n = 0;
-    let mut p = 0;
-    while records::whole_at(old, p) {
-        let next = records::next_at(old, p);
+    for p in places::all(old) {
         if is_kept(old, p, but, table) {
-            n += next - p;
+            n += records::next_at(old, p) - p;
         }
-        p = next;
     }
     n
 }
@@ -71,14 +68,12 @@ fn store(old: &[u8], new: &mut [u8], but: usize, allowed: usize, table: &[u32]) 
 {
     let mut need = 0;
     let mut q = 0;
-    let mut p = 0;
-    while records::whole_at(old, p) {
-        let next = records::next_at(old, p);
+    for p in places::all(old) {
         if is_kept(old, p, but, table) {
-            need = copying::copy(old, p, next - p, new, q, need, allowed);
-            q += next - p;
+            let size = records::next_at(old, p) - p;
+            need = copying::copy(old, p, size, new, q, need, allowed);
+            q += size;
         }
-        p = next;
     }
     need = copying::blank(new, q, need, allowed);
     need <= allowed
@@ -92,8 +87,5 @@ fn is_kept(old: &[u8], p: usize, but: usize, table: &[u32]) -> bool
     ensures { result ≡ is_kept but (record_at old.now p)
         (format_records (drop (next_at old.now p) old.now)) }
 {
-    if endian::pair_at(old, p + 4) == but {
-        return false;
-    }
-    current::is_latest(old, p, table)
+    endian::pair_at(old, p + 4) != but && current::is_latest(old, p, table)
 }

@@ -1,11 +1,7 @@
-use Prim.Native.Nat.{◌-◌}
-use lib.ListN.{length}
 use Rattle.journal.specs.Marks.{Marked}
+use Rattle.journal.proofs.theory.Walk.{On}
 use Rattle.packing.specs.theory.Passes.{Measured}
 use Rattle.packing.proofs.measure.Given as goal
 
-abbrev pub invariant-loop-next : goal.invariant-loop-next
-invariant-loop-next l = Measured l.old l.but l.p l.n × Marked l.old l.table l.p
-
-abbrev pub decreases-loop-next : goal.decreases-loop-next
-decreases-loop-next l = length l.old - l.p
+abbrev pub invariant-loop-p : goal.invariant-loop-p
+invariant-loop-p l = On l.old (λ p. Measured l.old l.but p l.n × Marked l.old l.table p) l.p-iterator
