@@ -9,7 +9,6 @@ use crate::rows::Row;
 use crate::{rows, scan};
 use polygon::corners;
 use polygon::point::Point;
-use sorting::order;
 
 // Where two rows go on, and how many corners are kept.
 #[derive(Clone, Copy)]
@@ -68,6 +67,7 @@ fn both(a: &[i32], row: Row, b: &[i32], other: Row, up: bool, buf: &mut [i32]) -
 }
 
 // Pushes the next corner of two rows on the first k corners of the buffer.
+#[tactic(auto, using(sorting::specs::theory::Lengths::lengths))]
 fn push_next(a: &[i32], i: usize, b: &[i32], j: usize, up: bool, buf: &mut [i32], k: usize) -> Step
     requires { Line a.now (i + 1) × Line b.now (j + 1) × (k < length (points buf.old)) × SmallTo buf.old k }
     ensures { Stepped up (closed (points a.now)) i (closed (points b.now)) j
@@ -80,7 +80,7 @@ fn push_next(a: &[i32], i: usize, b: &[i32], j: usize, up: bool, buf: &mut [i32]
         let kept = scan::push(buf, k, p);
         return Step {
             first: i + 1,
-            second: order::after(0 <= c, j),
+            second: j + usize::from(0 <= c),
             kept,
         };
     }
@@ -100,10 +100,8 @@ fn rest(list: &[i32], from: usize, end: usize, buf: &mut [i32], k: usize) -> usi
         buf.new result }
 {
     let mut kept = k;
-    let mut i = from;
-    while i < end {
+    for i in from..end {
         kept = scan::push(buf, kept, rows::closed_at(list, i));
-        i += 1;
     }
     kept
 }

@@ -10,7 +10,6 @@ ghost use Rattle.hull.specs.Chain.{row_first, row_end, home as chain_home, is_ri
 use crate::scan;
 use polygon::point::Point;
 use polygon::{corners, point};
-use sorting::order;
 
 // The corners from one position up to another.
 #[derive(Clone, Copy)]
@@ -21,6 +20,7 @@ pub struct Row {
 
 // The corners from one end of a shape's chain to the other that may be on the chain of two shapes, from one corner
 // to another: the ends themselves only if they lie to the right of the line from corner to corner.
+#[tactic(auto, using(sorting::specs::theory::Lengths::lengths))]
 pub fn trimmed(list: &[i32], low: usize, high: usize, from: Point, to: Point) -> Row
     requires { (low ≤ high) × (high ≤ length (points list.now)) × Line list.now high
         × Small (2 ^ 21) (at from) × Small (2 ^ 21) (at to) }
@@ -28,8 +28,8 @@ pub fn trimmed(list: &[i32], low: usize, high: usize, from: Point, to: Point) ->
         × (result.end ≡ row_end (closed (points list.now)) high (at from) (at to)) }
 {
     Row {
-        first: order::after(!is_right(list, low, from, to), low),
-        end: order::after(is_right(list, high, from, to), high),
+        first: low + usize::from(!is_right(list, low, from, to)),
+        end: high + usize::from(is_right(list, high, from, to)),
     }
 }
 
@@ -69,10 +69,7 @@ pub fn foremost(up: bool, a: &[i32], i: usize, b: &[i32], j: usize) -> Point
 {
     let p = corners::corner_at(a, i);
     let q = corners::corner_at(b, j);
-    if order(up, p, q) <= 0 {
-        return p;
-    }
-    q
+    if order(up, p, q) <= 0 { p } else { q }
 }
 
 // Which of two points comes first on the way up, or down: below 0 if it is p, above 0 if it is q, 0 if they are equal.

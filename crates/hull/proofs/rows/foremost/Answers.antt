@@ -27,8 +27,8 @@ told c =
 
 pub returns-then-order-le0 : goal.returns-then-order-le0
 returns-then-order-le0 c =
-    sym (ap (λ (t : Bool). cond t (at c.corner_at-p.result) (at c.corner_at-q.result)) c.if-order-le0.true) ∙ told c.before
+    sym (ap (λ (t : Bool). cond t (at c.corner_at-p.result) (at c.corner_at-q.result)) c.if-order-le0.true) ∙ told (goal.at.returns-then-order-le0 c).After-order
 
-pub returns : goal.returns
-returns c =
-    sym (ap (λ (t : Bool). cond t (at c.corner_at-p.result) (at c.corner_at-q.result)) c.if-order-le0.false) ∙ told c.before
+pub returns-else-order-le0 : goal.returns-else-order-le0
+returns-else-order-le0 c =
+    sym (ap (λ (t : Bool). cond t (at c.corner_at-p.result) (at c.corner_at-q.result)) c.if-order-le0.false) ∙ told (goal.at.returns-else-order-le0 c).After-order
