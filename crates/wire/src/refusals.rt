@@ -1,10 +1,10 @@
 // Refusals as replies. No other code gives a refusal its number and what it carries.
 ghost use Rattle.std.specs.Prelude.{◌≡◌};
-ghost use Rattle.answers.specs.Answer.{of_refusal, of_unread};
+ghost use Rattle.answers.specs.Answer.{of_refusal, of_unread, fault_number, axis_number};
 ghost use Rattle.wire.specs.Told.{crossed, numbers};
 
 use crate::{Reply, numbers};
-use answers::{Refusal, Unread};
+use answers::{Axis, Fault, Refusal, Unread};
 
 impl From<Refusal> for Reply {
     ghost from_gives = { λ refusal reply. numbers reply ≡ crossed (of_refusal refusal) };
@@ -45,10 +45,27 @@ impl From<Unread> for Reply {
 
     // Returns the refusal of a reading, which carries the part: 1 for x, 2 for y.
     fn from(refusal: Unread) -> Self {
-        match refusal {
-            Unread::NotFinite { part } => numbers::refused(17, [part as u64]),
-            Unread::NotWhole { part } => numbers::refused(18, [part as u64]),
-            Unread::Far { part } => numbers::refused(3, [part as u64]),
-        }
+        numbers::refused(number(refusal.fault), [part(refusal.axis)])
+    }
+}
+
+// Returns the number of the fault's row.
+fn number(fault: Fault) -> u64
+    ensures { result ≡ fault_number fault }
+{
+    match fault {
+        Fault::NotFinite => 17,
+        Fault::NotWhole => 18,
+        Fault::Far => 3,
+    }
+}
+
+// Returns the number of the part.
+fn part(axis: Axis) -> u64
+    ensures { result ≡ axis_number axis }
+{
+    match axis {
+        Axis::X => 1,
+        Axis::Y => 2,
     }
 }
