@@ -9,7 +9,7 @@ use clearance::measured::Distance;
 
 // The distance of a corner, with the number of millimetres rounded up. A corner has no edge to fall on, so the third
 // kind does not come.
-pub fn rounded(corner: usize, found: Distance) -> Beyond
+pub fn rounded(corner: usize, found: Distance) -> Option<Beyond>
     requires { RoundedDown found }
     ensures { values_of result ≡ up_numbers corner found }
 {
@@ -19,26 +19,26 @@ pub fn rounded(corner: usize, found: Distance) -> Beyond
             squared,
             rounded,
             ..
-        } => Beyond::Corners {
+        } => Some(Beyond::Corners {
             corner,
             other: second,
             squared,
             up: above(squared, squared, rounded),
-        },
+        }),
         Distance::OnSecond {
             edge,
             turn,
             squared,
             rounded,
             ..
-        } => Beyond::Edge {
+        } => Some(Beyond::Edge {
             corner,
             edge,
             turn,
             squared,
             up: above(turn, squared, rounded),
-        },
-        Distance::OnFirst { .. } => Beyond::Inside,
+        }),
+        Distance::OnFirst { .. } => None,
     }
 }
 
