@@ -1,5 +1,6 @@
 -- What passes over a log tell of it. Our own, not of document 02.
 --     surveyed b         where the first bad record is, as an error, or where the last whole record ends if none is bad
+--     damaged_at p, refused_at d    the error that names the place p, and refusal 15 of it
 --     Legible b p        the record at place p is inside the log, and long enough for what a record of its kind says
 --     Ample b l          the list l has room for the numbers of any shape that a record of the log b may have
 --     record_at b p       the record at place p; `next_at b p` the place after it
@@ -16,12 +17,16 @@ use Rattle.journal.specs.Format.{fixed_bytes, size, whole, records, kind, name, 
 use Rattle.journal.specs.Reading.{damaged, bad_place, held, latest}
 use Rattle.journal.specs.Current.{current}
 use Rattle.journal.specs.Adding.{end}
+use Rattle.admission.specs.declared.answer.Refusal.{Refusal}
 use Rattle.journal.specs.declared.survey.Damaged.{Damaged}
 use Rattle.journal.specs.declared.head.Head.{Head}
 use Rattle.journal.specs.declared.latest.Found.{Found}
 
 abbrev pub damaged_at : ℕ → Damaged
 damaged_at p = record { place = p }
+
+abbrev pub refused_at : Damaged → Refusal
+refused_at d = Refusal.Damaged d.place
 
 unfoldable pub surveyed : List ℕ → Result ℕ Damaged
 surveyed b = cond (damaged (records b)) (Err (damaged_at (bad_place (records b)))) (Ok (end b))

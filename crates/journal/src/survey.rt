@@ -3,6 +3,7 @@ ghost use Rattle.std.specs.Prelude.{◌≡◌};
 ghost use Rattle.journal.specs.Survey.{Ample, surveyed};
 
 use crate::{places, records};
+use admission::answer::Refusal;
 use polygon::limits;
 
 // The length of a log for which a smaller buffer is enough. It takes less time to clear.
@@ -15,6 +16,18 @@ const SHORT_NUMBERS: usize = 256;
 #[derive(Clone, Copy)]
 pub struct Damaged {
     pub place: usize,
+}
+
+impl From<Damaged> for Refusal {
+    ghost use Rattle.journal.specs.Survey.{refused_at};
+
+    ghost from_gives = { λ d r. r ≡ refused_at d };
+
+    fn from(damaged: Damaged) -> Refusal {
+        Refusal::Damaged {
+            place: damaged.place,
+        }
+    }
 }
 
 // Goes over all whole records and judges the corners of each. Returns where the last whole record ends, if none is bad.
