@@ -22,7 +22,7 @@ use Rattle.calipers.specs.Image.{image}
 use Rattle.calipers.specs.Side.{walk_of}
 use Rattle.calipers.specs.Walk.{here, finished, advanced, At}
 use Rattle.calipers.specs.theory.Carry.{all-passed, some_left, sides-here, sides-advanced, sides-at}
-use Rattle.calipers.specs.theory.Carry.{here-near, first_next, corners-fit, edges_fit}
+use Rattle.calipers.specs.theory.Carry.{here-near, corners-fit, edges_fit}
 use Rattle.calipers.specs.theory.Image.{image-count}
 use Rattle.separation.specs.Passing.{Passing}
 use Rattle.separation.specs.theory.Image.{image-few, image-sides}
@@ -36,9 +36,6 @@ use Rattle.separation.proofs.Passing.{
 }
 use Rattle.separation.proofs.around.pass.Goals as goal
 use Rattle.separation.proofs.around.pass.Goals.{After-cross-turn, After-here, After-next-n, After-stride-far, After-struct_known-5-1, Start}
-
-pub stride-far-requires : goal.stride-far-requires
-stride-far-requires c = c.requires
 
 -- their count fits
 fits : (c : Start) → let args = c.args in
@@ -55,9 +52,6 @@ overflow_add-count c =
     let p = c.stride-far.ensures in
     omega (arith, p.first-side.at_in, p.second-side.at_in, fits c.before.before.before.before.before.before.before)
 
-pub overflow_sub-count : goal.overflow_sub-count
-overflow_sub-count c = omega (arith, c.stride-far.ensures.counted)
-
 pub loop-m-init : goal.loop-m-init
 loop-m-init c =
     let args = c.args in
@@ -71,14 +65,6 @@ loop-m-init c =
 
 pub order-c-requires : goal.order-c-requires
 order-c-requires c = let inv = c.loop-m.invariant in edges_fit (passing-at inv.0) inv.1 inv.2
-
-pub next-m-requires : goal.next-m-requires
-next-m-requires c = let inv = c.loop-m.invariant in first_next (passing-at inv.0) inv.1 inv.2
-
-pub next-n-requires : goal.next-n-requires
-next-n-requires c =
-    let pre = c.requires in
-    (pre.1, pre.2, c.loop-m.invariant.2)
 
 pub here-from-requires : goal.here-from-requires
 here-from-requires c = let inv = c.loop-m.invariant in corners-fit (passing-at inv.0) inv.1 inv.2

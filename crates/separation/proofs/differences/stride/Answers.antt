@@ -14,14 +14,11 @@ use Rattle.calipers.specs.theory.Carry.{first_next, corners-fit, edges_fit}
 use Rattle.calipers.specs.theory.Image.{image-count, image-edges}
 use Rattle.sums.specs.theory.Summed.{next-few}
 use Rattle.sums.proofs.Walked.{walked_at, walked-below, walked-inside}
-use Rattle.sums.proofs.Progress.{progress_start, progress-part, progress-room, progress-length, progress-more}
+use Rattle.sums.proofs.Progress.{progress-part, progress-room, progress-length, progress-more}
 use Rattle.separation.specs.Differences.{enough}
 use Rattle.separation.specs.theory.Image.{image-begun}
 use Rattle.separation.proofs.differences.stride.Goals as goal
 use Rattle.separation.proofs.differences.stride.Goals.{At-loop-out, In-loop-out}
-
-pub loop-out-init : goal.loop-out-init
-loop-out-init c = progress_start c.requires.3 c.requires.4
 
 pub are_inside-requires : goal.are_inside-requires
 are_inside-requires c =
@@ -87,9 +84,6 @@ loop-out-preserved c =
     progress-more inv c.here.ensures c.put.ensures
     (walked-inside inv.walked product _ _ first.0 second.0 first.1 second.1 left.0 left.1
     (omega (arith, below c.before.before.before.before.before.before.before.before.before)))
-
-pub shape_of-out : goal.shape_of-out
-shape_of-out c = progress-length c.loop-out.invariant
 
 pub returns : goal.returns
 returns c = let inv = c.loop-out.invariant in (inv.walked, progress-part inv)

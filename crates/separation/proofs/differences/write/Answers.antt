@@ -24,12 +24,6 @@ use Rattle.separation.specs.theory.Image.{image-begun, image-all, image-few, ima
 use Rattle.separation.proofs.differences.write.Goals as goal
 use Rattle.separation.proofs.differences.write.Goals.{After-stride-far, At-loop-s, Start}
 
-pub side_at-first-requires : goal.side_at-first-requires
-side_at-first-requires c = (omega arith, c.requires.0.in_range, c.requires.0.shape.some)
-
-pub side_at-second-requires : goal.side_at-second-requires
-side_at-second-requires c = let pre = c.requires in (pre.1, pre.2, omega arith)
-
 pub overflow_add-all : goal.overflow_add-all
 overflow_add-all c =
     omega (
@@ -63,9 +57,6 @@ strode : (c : After-stride-far) → let args = c.args in
     c.stride-far.result.first c.stride-far.result.second c.stride-far.new.out
 strode c =
     part-progress c.stride-far.ensures.0 (room c.before.before.before.before.before.before) c.stride-far.ensures.1
-
-pub loop-s-init : goal.loop-s-init
-loop-s-init c = λ old p. p
 
 -- what is written in the loop
 written : (c : At-loop-s) →

@@ -4,14 +4,8 @@ use Rattle.plane.specs.Turn.{cross}
 use Rattle.separation.proofs.Widened.{widened}
 use Rattle.separation.proofs.stride.joint_moment.Goals as goal
 
-pub overflow_add-result : goal.overflow_add-result
-overflow_add-result c = machine-fits (search (machine, bounded, widened) depth 40) tt
-
 pub overflow_mul-result : goal.overflow_mul-result
 overflow_mul-result c = machine-fits (search (machine, bounded, widened) depth 40) tt
-
-pub overflow_add-result-2 : goal.overflow_add-result-2
-overflow_add-result-2 c = machine-fits (search (machine, bounded, widened) depth 40) tt
 
 pub overflow_mul-result-2 : goal.overflow_mul-result-2
 overflow_mul-result-2 c = machine-fits (search (machine, bounded, widened) depth 40) tt

@@ -3,7 +3,6 @@ use mathlib.Core.List.{[], ◌∷◌}
 use mathlib.Core.Path.{◌≡◌, sym, ◌∙◌, ap}
 use Prim.Native.Nat.{◌<◌}
 use native.Mathlib.Omega.{arith}
-use borrow.Author.Count.{below_more}
 use lib.ListN.{length}
 use Rattle.plane.specs.Point.{Point, points, corner}
 use Rattle.plane.specs.Separation.{inside}
@@ -35,9 +34,6 @@ returns-then-not-on_segment c =
     let args = c.args in
     sym (corner-outside (points args.a.now) (at args.p ∷ at args.q ∷ []) (omega arith) c.loop-i.i
     (corner-there c.before.before.before) (sym (asked c.before) ∙ c.if-not-on_segment.true))
-
-pub loop-i-preserved : goal.loop-i-preserved
-loop-i-preserved c = below_more _ _ c.loop-i.invariant (sym (asked c.before) ∙ c.if-not-on_segment.false)
 
 pub returns : goal.returns
 returns c =

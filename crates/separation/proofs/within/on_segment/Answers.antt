@@ -30,9 +30,6 @@ returns-else-cross-eq0 c =
     ∙ sym (segment-off (at c.args.p) (at c.args.q) (at c.args.x)
     (λ e. c.if-cross-eq0.false (ap (of_z w64) (crossed c.before ∙ e))))
 
-pub dot-requires : goal.dot-requires
-dot-requires c = cross-requires c.before.before
-
 pub returns-then-cross-eq0 : goal.returns-then-cross-eq0
 returns-then-cross-eq0 c =
     let steps = ap₂ value c.step-to_first.ensures c.step-to_last.ensures in
