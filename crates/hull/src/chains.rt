@@ -9,6 +9,7 @@ use crate::rows::Row;
 use crate::{rows, scan};
 use polygon::corners;
 use polygon::point::Point;
+use std::cmp::Ordering;
 
 // Where two rows go on, and how many corners are kept.
 #[derive(Clone, Copy)]
@@ -75,20 +76,22 @@ fn push_next(a: &[i32], i: usize, b: &[i32], j: usize, up: bool, buf: &mut [i32]
 {
     let p = rows::closed_at(a, i);
     let q = rows::closed_at(b, j);
-    let c = rows::order(up, p, q);
-    if c <= 0 {
-        let kept = scan::push(buf, k, p);
-        return Step {
+    match rows::order(up, p, q) {
+        Ordering::Less => Step {
             first: i + 1,
-            second: j + usize::from(0 <= c),
-            kept,
-        };
-    }
-    let kept = scan::push(buf, k, q);
-    Step {
-        first: i,
-        second: j + 1,
-        kept,
+            second: j,
+            kept: scan::push(buf, k, p),
+        },
+        Ordering::Equal => Step {
+            first: i + 1,
+            second: j + 1,
+            kept: scan::push(buf, k, p),
+        },
+        Ordering::Greater => Step {
+            first: i,
+            second: j + 1,
+            kept: scan::push(buf, k, q),
+        },
     }
 }
 
