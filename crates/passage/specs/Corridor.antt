@@ -13,7 +13,7 @@ use Rattle.plane.specs.Separation.{apart}
 use Rattle.plane.specs.Clearance.{nearest}
 use Rattle.strips.specs.Strip.{least, gap_in}
 use Rattle.strips.specs.OwnDirection.{towards}
-use Rattle.passage.specs.declared.corridor.Lane.{Lane}
+use Rattle.answers.specs.declared.Lane.{Lane}
 
 abbrev pub widest_of : List Point → List Point → Point
 widest_of A B = primitive (towards A B (nearest A B))

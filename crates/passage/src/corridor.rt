@@ -10,22 +10,12 @@ ghost use Rattle.polygon.specs.Point.{at};
 ghost use Rattle.strips.specs.Strip.{least as strip_least};
 ghost use Rattle.passage.specs.Corridor.{widest_numbers, corridor_numbers, way_numbers};
 
+use answers::Lane;
 use measure::magnitude;
 use polygon::point;
 use polygon::point::Point;
 use separation::answer::Relation;
 use separator::primitive;
-
-// A way between two shapes: the direction across it, the values of its two lines in that direction, and its width in
-// millimetres rounded down.
-#[derive(Clone, Copy)]
-pub struct Lane {
-    pub u: i32,
-    pub v: i32,
-    pub low: i64,
-    pub high: i64,
-    pub width: u64,
-}
 
 // The widest corridor between two shapes, the second below it and the first above it; None if they are not apart.
 // Ruled out: touching counted as passable.

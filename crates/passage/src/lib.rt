@@ -14,7 +14,7 @@ ghost use Rattle.passage.specs.Passage.{passage_numbers};
 ghost use Rattle.passage.specs.Corridor.{way_numbers};
 
 use admission::answer::Refusal;
-use corridor::Lane;
+use answers::Lane;
 use polygon::{limits, peak};
 use separation::differences;
 
