@@ -11,7 +11,7 @@ use Rattle.plane.specs.Measure.{root_below}
 use Rattle.clearance.specs.Answer.{ratio_of}
 use Rattle.clearance.specs.declared.measured.Distance.{Distance}
 use Rattle.excess.specs.Excess.{beyond, root_above}
-use Rattle.excess.specs.declared.answer.Beyond.{Beyond}
+use Rattle.answers.specs.declared.Beyond.{Beyond}
 use Rattle.excess.specs.declared.outermost.Far.{Far}
 
 abbrev pub values_of : Option Beyond → List ℤ

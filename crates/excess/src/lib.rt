@@ -2,7 +2,6 @@
 #![tactic(auto)]
 
 mod alone;
-pub mod answer;
 mod outermost;
 mod rounding;
 
@@ -12,7 +11,7 @@ ghost use Rattle.plane.specs.Refusal.{Valid};
 ghost use Rattle.excess.specs.Excess.{excess_numbers};
 ghost use Rattle.excess.specs.Answer.{values_of};
 
-use answer::Beyond;
+use answers::Beyond;
 use polygon::corners;
 
 // How far the new shape reaches beyond the old one, or None where it is inside: at its corner that is furthest from the

@@ -4,7 +4,7 @@ ghost use Rattle.plane.specs.Measure.{root_below};
 ghost use Rattle.excess.specs.Excess.{root_above};
 ghost use Rattle.excess.specs.Answer.{values_of, RoundedDown, up_numbers};
 
-use crate::answer::Beyond;
+use answers::Beyond;
 use clearance::measured::Distance;
 
 // The distance of a corner, with the number of millimetres rounded up. A corner has no edge to fall on, so the third
