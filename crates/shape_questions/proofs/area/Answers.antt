@@ -2,7 +2,6 @@
 use mathlib.Core.Path.{sym, ap}
 use mathlib.Core.List.{[], ◌∷◌}
 use lib.IntN.{pos}
-use Rattle.plane.specs.Refusal.{Valid}
 use Rattle.plane.specs.Floor.{Floored, on}
 use Rattle.area.specs.Area.{ask_area}
 use Rattle.admission.specs.theory.Judged.{held, refusal-of, handed-on}

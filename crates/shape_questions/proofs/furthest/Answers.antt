@@ -11,7 +11,6 @@ use Rattle.plane.specs.Limits.{part_small}
 use Rattle.plane.specs.Point.{Point, point, points}
 use Rattle.plane.specs.Forms.{NonZero}
 use Rattle.plane.specs.Reply.{NoneApply}
-use Rattle.plane.specs.Refusal.{Valid}
 use Rattle.plane.specs.Direction.{support}
 use Rattle.plane.specs.Face.{face_first, face_last}
 use Rattle.plane.specs.Furthest.{direction_rows}
@@ -46,7 +45,7 @@ judged-direction c =
 
 -- past it, neither row applies
 passed : (c : In_ok-admit_direction) → NoneApply (direction_rows (towards (goal.at.In_ok-admit_direction c).Start))
-passed c = (judged-direction (goal.at.In_ok-admit_direction c).After-admit_direction).held c.in_ok-admit.ensures.in_ok-admit_direction.was
+passed c = (judged-direction (goal.at.In_ok-admit_direction c).After-admit_direction).valid c.in_ok-admit_direction.was
 
 pub returns-in_err-admit : goal.returns-in_err-admit
 returns-in_err-admit c =

@@ -3,7 +3,6 @@ use mathlib.Core.Path.{ap}
 use mathlib.Core.List.{[], ◌∷◌}
 use Prim.Native.Nat.{ℕ}
 use lib.IntN.{pos}
-use Rattle.plane.specs.Refusal.{Valid}
 use Rattle.plane.specs.Floor.{on}
 use Rattle.plane.specs.Question.{Question, ask_judge}
 use Rattle.admission.specs.theory.Judged.{held, refusal-of, handed-on}

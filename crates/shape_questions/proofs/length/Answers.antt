@@ -1,5 +1,4 @@
 -- `length` meets its contract: the list is refused, or its furthest pair of corners sought.
-use Rattle.plane.specs.Refusal.{Valid}
 use Rattle.plane.specs.Floor.{Floored, on}
 use Rattle.plane.specs.Question.{ask_length}
 use Rattle.admission.specs.theory.Judged.{held, refusal-of, handed-on}

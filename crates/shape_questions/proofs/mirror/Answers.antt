@@ -6,7 +6,6 @@ use native.Mathlib.Omega.{arith}
 use lib.IntN.{pos}
 use lib.ListN.{length}
 use Rattle.plane.specs.Point.{points}
-use Rattle.plane.specs.Refusal.{Valid}
 use Rattle.plane.specs.Floor.{on}
 use Rattle.plane.specs.Question.{Question, ask_mirror}
 use Rattle.plane.proofs.theory.lists.Flat.{points-length}
@@ -27,7 +26,7 @@ returns-in_err-admit c =
     (shapes-refused (asked (goal.at.returns-in_err-admit c).Start) (refusal-of c.in_err-admit.ensures))
 
 -- twice as many numbers as corners
-doubled : (c : In_default) → let l = c.args.list.now in length l ≡ 2 * length (points l)
+doubled : (c : In_ok-admit) → let l = c.args.list.now in length l ≡ 2 * length (points l)
 doubled c = omega (arith, points-length c.args.list.now, (held c.in_ok-admit.ensures).paired)
 
 pub returns-then-out-list : goal.returns-then-out-list

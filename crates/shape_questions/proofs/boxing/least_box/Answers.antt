@@ -5,7 +5,6 @@ use borrow.Author.Tests.{lt-ltb, le-ltb}
 use lib.ListN.{length}
 use Rattle.plane.specs.Point.{points}
 use Rattle.plane.specs.Reply.{here}
-use Rattle.plane.specs.Refusal.{Valid}
 use Rattle.plane.specs.Floor.{Floored, on, corners}
 use Rattle.boxes.specs.Box.{ask_box}
 use Rattle.admission.specs.theory.Judged.{refuses, held, refusal-of, handed-on}
