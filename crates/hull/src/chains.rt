@@ -55,6 +55,7 @@ fn both(a: &[i32], row: Row, b: &[i32], other: Row, up: bool, buf: &mut [i32]) -
     let mut i = row.first;
     let mut j = other.first;
     let mut k = 1;
+    // A while: a step goes on in one row or in both.
     while i < row.end {
         if other.end <= j {
             return rest(a, i, row.end, buf, k);

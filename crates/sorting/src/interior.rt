@@ -110,6 +110,7 @@ fn outermost(list: &[i32]) -> Extremes
     let mut b = Far::first(northwest(p));
     let mut c = Far::first(southwest(p));
     let mut d = Far::first(southeast(p));
+    // One walk finds all four.
     for i in 1..n {
         let q = corners::corner_at(list, i);
         a = a.or(i, northeast(q));
