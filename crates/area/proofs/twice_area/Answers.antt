@@ -18,24 +18,11 @@ use Rattle.area.proofs.theory.Compared.{area-nonneg}
 use Rattle.area.proofs.twice_area.Goals as goal
 use Rattle.area.proofs.twice_area.Goals.{After-cross_at-sum-in-loop-i, After-loop-i}
 
-pub overflow_sub-n : goal.overflow_sub-n
-overflow_sub-n c = omega (arith, c.count-n.ensures, c.requires.shape.some)
-
-pub cross_at-sum-requires : goal.cross_at-sum-requires
-cross_at-sum-requires c =
-    let some = c.requires.shape.some in
-    (omega (arith, c.count-n.ensures, some), some, c.requires.in_range)
-
 pub loop-i-init : goal.loop-i-init
 loop-i-init c =
     let ps = points c.args.list.now in
     result-is w64 c.cross_at-sum.type_inv c.cross_at-sum.ensures
     ∙ ap (λ k. cross (corner ps (k - 1)) (corner ps 0)) c.count-n.ensures ∙ partial-start ps
-
-pub cross_at-sum-requires-in-loop-i : goal.cross_at-sum-requires-in-loop-i
-cross_at-sum-requires-in-loop-i c =
-    let n = c.count-n.ensures in
-    (omega (arith, n), omega (arith, n), c.requires.in_range)
 
 -- a partial sum v, and one more product u
 module _ (s r v u : ℤ) (e : s ≡ v) (h : Within (2 ^ 60) v) (f : r ≡ u) (k : Within (2 ^ 43) u) where

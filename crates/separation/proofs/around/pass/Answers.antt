@@ -35,7 +35,7 @@ use Rattle.separation.proofs.Passing.{
   passing-end,
 }
 use Rattle.separation.proofs.around.pass.Goals as goal
-use Rattle.separation.proofs.around.pass.Goals.{After-cross-turn, After-here, After-next-n, After-stride-far, After-struct_known-5-1, Start}
+use Rattle.separation.proofs.around.pass.Goals.{After-cross-turn, After-here, After-next-n, After-stride-far, Start}
 
 -- their count fits
 fits : (c : Start) → let args = c.args in
