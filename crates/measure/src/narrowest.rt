@@ -58,6 +58,7 @@ fn stride(list: &[i32], top: usize, end: usize) -> Partway<Across>
         turn: 1,
         squared: 0,
     };
+    // A loop beside that of `longest`: an edge is measured before it is passed, and a pair of corners after the step.
     while half::are_inside(top, end, s, t) {
         if side::order(s, t) < 0 {
             best = narrower(best, measured(s, t));
