@@ -20,7 +20,7 @@ ghost use Rattle.neighbours.specs.Search.{NotNearer, Onward};
 
 use clearance::measured::Distance;
 use journal::head::Head;
-use journal::{current, head, records};
+use journal::{current, head, places};
 use polygon::extent::Extent;
 use polygon::{extent, limits};
 
@@ -51,14 +51,11 @@ fn pass(log: &[u8], list: &[i32], floor: u16, but: usize, buffer: &mut [i32]) ->
 {
     let extent = extent::extent_of(list);
     let mut best = None;
-    let mut p = 0;
-    // A while: the step to the next record is the record's length.
-    while records::whole_at(log, p) {
+    for p in places::all(log) {
         best = look(log, p, list, extent, floor, but, best, buffer);
         if is_met(best) {
             return best;
         }
-        p = records::next_at(log, p);
     }
     best
 }
