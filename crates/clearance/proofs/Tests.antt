@@ -1,8 +1,7 @@
 -- Tests that the code joins.
 --     and-taken, and_left     `x && y` where the code found x true, and where it found it false
---     or-taken, or_left       `x || y` likewise
 use mathlib.Core.Path.{◌≡◌, sym, ◌∙◌, ap}
-use mathlib.Core.Bool.{Bool, true, false, ◌&&◌, ◌||◌}
+use mathlib.Core.Bool.{Bool, true, false, ◌&&◌}
 
 module _ {x one : Bool} (other : Bool) (e : x ≡ one) where
   pub and-taken : {y : Bool} → x ≡ true → y ≡ other → y ≡ (one && other)
@@ -10,9 +9,3 @@ module _ {x one : Bool} (other : Bool) (e : x ≡ one) where
 
   pub and_left : x ≡ false → x ≡ (one && other)
   and_left t = t ∙ ap (λ (b : Bool). b && other) (sym t ∙ e)
-
-  pub or-taken : x ≡ true → x ≡ (one || other)
-  or-taken t = t ∙ ap (λ (b : Bool). b || other) (sym t ∙ e)
-
-  pub or_left : {y : Bool} → x ≡ false → y ≡ other → y ≡ (one || other)
-  or_left t f = f ∙ ap (λ (b : Bool). b || other) (sym t ∙ e)
