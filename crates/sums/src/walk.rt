@@ -58,17 +58,18 @@ pub fn walk_on(a: &[i32], b: &[i32], i: usize, j: usize, k: usize, out: &mut [i3
     }
 }
 
-// The sides to which a walk came, and the corners that were written.
+// How far a walk under way came: the corners that were written or counted, and of each shape the side, or how many
+// edges are passed.
 #[derive(Clone, Copy)]
-struct Partway {
-    count: usize,
-    first: Side,
-    second: Side,
+pub struct Partway<T> {
+    pub count: usize,
+    pub first: T,
+    pub second: T,
 }
 
 // Goes on as long as both shapes have three edges left and more than one corner may be written, and writes the corners
 // on its way at the front of the output. No step tests for the end of a shape: that is quicker.
-fn stride(a: &[i32], b: &[i32], k: usize, s: Side, t: Side, out: &mut [i32]) -> Partway
+fn stride(a: &[i32], b: &[i32], k: usize, s: Side, t: Side, out: &mut [i32]) -> Partway<Side>
     requires { Walked a.now b.now (walk_of s t false) k 0 s t
         × (2 * length (next_corners a.now b.now (walk_of s t false) k) ≤ length out.old) }
     ensures { Walked a.now b.now (walk_of s t false) k result.count result.first result.second
@@ -99,13 +100,7 @@ pub fn inside(i: usize, m: usize, j: usize, n: usize, count: usize, k: usize) ->
     requires { (i < 2 ^ 63) × (j < 2 ^ 63) × (count < 2 ^ 63) }
     ensures { result ≡ true → (i + 2 < m) × (j + 2 < n) × (count + 1 < k) }
 {
-    if m <= i + 2 {
-        return false;
-    }
-    if n <= j + 2 {
-        return false;
-    }
-    count + 1 < k
+    i + 2 < m && j + 2 < n && count + 1 < k
 }
 
 // Returns the walk at these two sides, with `count` corners written.
@@ -146,13 +141,7 @@ pub fn is_place(a: &[i32], b: &[i32], i: usize, j: usize, over: bool) -> bool
 fn ends(left: usize, all: usize, over: bool) -> bool
     ensures { result ≡ place_test_ends left all over }
 {
-    if all == 0 {
-        return true;
-    }
-    if over {
-        return left == 0;
-    }
-    0 < left
+    all == 0 || over == (left == 0)
 }
 
 // Whether the last edge passed of a shape, if there is one, is before the next of the other, if there is one.
