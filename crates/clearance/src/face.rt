@@ -93,7 +93,7 @@ pub fn lowest(list: &[i32], n: Point) -> Face
     ordered(face.first, face.last)
 }
 
-// The opposite direction.
+// The opposite direction. `point::opposite` is for corners, whose parts are smaller.
 pub fn against(n: Point) -> Point
     requires { Small (2 ^ 22) (at n) }
     ensures { at result ≡ opposite (at n) }

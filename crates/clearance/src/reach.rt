@@ -49,7 +49,8 @@ pub fn first_reached(a: &[i32], b: &[i32], n: Point, i: usize, j: usize) -> Pair
     }
 }
 
-// The first of the four pairs of ends of two faces that passes a test.
+// The first of the four pairs of ends of two faces that passes a test. Each is tested by itself, since an iterator's
+// `find` would ask for a test of any two positions.
 fn first_pair<T: Fn(usize, usize) -> bool>(f: Face, g: Face, passes: T) -> Option<(usize, usize)>
     requires { AtEnds (λ i j. T.pre passes i j) f g }
     ensures { (test : ℕ → ℕ → Bool)
