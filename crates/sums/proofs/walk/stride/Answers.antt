@@ -9,14 +9,11 @@ use Rattle.plane.proofs.theory.lists.Flat.{points-length}
 use Rattle.plane.proofs.theory.sum.Positions.{edges-at-most}
 use Rattle.calipers.specs.theory.Carry.{first_next, corners-fit, edges_fit}
 use Rattle.sums.proofs.Walked.{walked_at, walked-below, walked-inside}
-use Rattle.sums.proofs.Progress.{progress_start, progress-part, progress-room, progress-length}
+use Rattle.sums.proofs.Progress.{progress-part, progress-room, progress-length}
 use Rattle.sums.proofs.Progress.{progress-more}
 use Rattle.sums.proofs.walk.stride.Given as given
 use Rattle.sums.proofs.walk.stride.Goals as goal
 use Rattle.sums.proofs.walk.stride.Goals.{In-loop-out}
-
-pub loop-out-init : goal.loop-out-init
-loop-out-init g c = progress_start c.requires.2 c.requires.3
 
 pub inside-requires : goal.inside-requires
 inside-requires g c =
@@ -76,9 +73,6 @@ loop-out-preserved g c =
     let left = three g c.before.before.before.before.before.before.before in
     progress-more inv c.here.ensures c.put.ensures
     (walked-inside w product _ _ first.0 second.0 first.1 second.1 left.0 left.1 left.2)
-
-pub shape_of-out : goal.shape_of-out
-shape_of-out g c = progress-length c.loop-out.invariant
 
 pub returns : goal.returns
 returns g c = let inv = c.loop-out.invariant in (inv.walked, progress-part inv)

@@ -45,12 +45,6 @@ room g c =
     subst (λ (w : Walk). 2 * length (next_corners args.a.now (g.R.Round.shape args.b.now) w args.k) ≤ length args.out.now) (sym (same g c))
     c.requires.3
 
-pub side_at-first-requires : goal.side_at-first-requires
-side_at-first-requires g c = let p = c.requires.1 in (p.standing.left_in, p.first-near, p.first-shape.some)
-
-pub side_at-second-requires : goal.side_at-second-requires
-side_at-second-requires g c = (c.requires.0, c.requires.1.standing.right-in)
-
 -- few edges of both
 few : (g : given.Over) (c : After-side_at-second g) → let args = c.args in
     length (edges (points args.a.now)) + length (edges (points (g.R.Round.shape args.b.now))) < 2 ^ 64
@@ -88,9 +82,6 @@ begun g c =
     subst (λ (w : Walk). Progress args.a.now (g.R.Round.shape args.b.now) args.out.now w args.k c.stride-far.result.count
     c.stride-far.result.first c.stride-far.result.second c.stride-far.new.out) (same g c.before.before.before.before)
     (part-progress went.0 (room g c.before.before.before.before) went.1)
-
-pub loop-s-init : goal.loop-s-init
-loop-s-init g c = λ old p. p
 
 -- what is written in the loop
 now : (g : given.Over) (c : At-loop-s g) →
