@@ -49,9 +49,9 @@ fn write(log: &mut [u8], p: usize, name: u16, floor: u16, list: &[i32], allowed:
     let low = (size % 256) as u8;
     let mut left = byte(log, p, low, allowed);
     left = byte(log, p + 1, (size / 256 % 256) as u8, left);
-    left = pair(log, p + 2, Kind::Floored as usize, left);
-    left = pair(log, p + 4, name as usize, left);
-    left = pair(log, p + 6, floor as usize, left);
+    left = pair(log, p + 2, Kind::Floored as u16, left);
+    left = pair(log, p + 4, name, left);
+    left = pair(log, p + 6, floor, left);
     left = words(log, p + 8, list, left);
     byte(log, last, records::LAST_BYTE, left);
     0 < left
@@ -113,18 +113,27 @@ fn word(log: &mut [u8], p: usize, z: i32, allowed: usize) -> usize
     requires { 3 + p < length log.old }
     ensures { Ran allowed (writes p (bytes_word z)) log.old result log.new }
 {
-    let n = endian::bits(z) as usize;
-    let left = pair(log, p, n % 65536, allowed);
-    pair(log, p + 2, n / 65536, left)
+    bytes(log, p, &z.to_le_bytes(), allowed)
 }
 
 // Stores a number in two bytes. How many stores are left.
-fn pair(log: &mut [u8], p: usize, n: usize, allowed: usize) -> usize
+fn pair(log: &mut [u8], p: usize, n: u16, allowed: usize) -> usize
     requires { 1 + p < length log.old }
     ensures { Ran allowed (writes p (bytes_pair n)) log.old result log.new }
 {
-    let left = byte(log, p, (n % 256) as u8, allowed);
-    byte(log, p + 1, (n / 256 % 256) as u8, left)
+    bytes(log, p, &n.to_le_bytes(), allowed)
+}
+
+// Stores bytes from a place on. How many stores are left.
+fn bytes(log: &mut [u8], p: usize, list: &[u8], allowed: usize) -> usize
+    requires { p + length list.now ≤ length log.old }
+    ensures { Ran allowed (writes p list.now) log.old result log.new }
+{
+    let mut left = allowed;
+    for (i, x) in list.iter().enumerate() {
+        left = byte(log, p + i, *x, left);
+    }
+    left
 }
 
 // Stores a byte if a store is left. How many are left then.

@@ -1,5 +1,6 @@
 -- Numbers written as bytes, and read, one by one.
 --     front-is, front_length     the front of an output that was overwritten, and how long it is
+--     word-bytes                 the four bytes of a number
 --     word-stored                the four bytes of a number, copied to a place
 --     Encoded, encoded-start, -more, -length, -done     numbers written as bytes at the front of an output
 use Rattle.std.specs.Prelude.{◌≡◌, refl, List, [], ◌∷◌, ◌++◌, ℕ, ◌+◌, ◌*◌, ◌/◌, ◌%◌, ◌≤◌, ◌<◌, ℤ, pos, take, drop, get_or}
@@ -28,7 +29,7 @@ module _ (new old out : List ℤ) (e : out ≡ overwritten new old) where
 -- ---- numbers as bytes
 
 -- the kit's four bytes of a number are a word's
-word-bytes : (n : ℕ) → n < 4294967296 → to_le_bytes w32 n ≡ pair (n % 65536) ++ pair (n / 65536)
+pub word-bytes : (n : ℕ) → n < 4294967296 → to_le_bytes w32 n ≡ pair (n % 65536) ++ pair (n / 65536)
 unfolding pair
 word-bytes n small =
     let first : n % 256 ≡ n % 65536 % 256 = omega arith in
