@@ -34,7 +34,7 @@ use Rattle.neighbours.specs.Spacing.{spacing_numbers, fraction_of, Sized}
 use Rattle.clearance.specs.declared.measured.Distance.{Distance}
 use Rattle.neighbours.specs.All.{All}
 use Rattle.gaps.specs.Gap.{Pair, Kept, no_pair, the_pair, grown_of, gap_of, no_wider, narrowest, size_rows_of}
-use Rattle.gaps.specs.declared.Narrowest.{Narrowest}
+use Rattle.answers.specs.declared.Gap.{Gap}
 use Rattle.gaps.specs.declared.search.Best.{Best}
 
 abbrev pub pair_at : List ℕ → ℕ → ℕ → Pair
@@ -116,6 +116,6 @@ pub record Walk (A : List Point) (b : List ℕ) (f p : ℕ) : Type 0 where
   pub sized : NoneApply (size_rows_of A (from f b p))
 
 -- what the inner function answers, as numbers
-abbrev pub numbers_of : Option Narrowest → List ℤ
+abbrev pub numbers_of : Option Gap → List ℤ
 numbers_of None = []
-numbers_of (Some g) = pos g.first ∷ pos g.second ∷ spacing_numbers g.distance
+numbers_of (Some g) = pos g.name ∷ pos g.other ∷ spacing_numbers g.distance

@@ -15,21 +15,13 @@ ghost use Rattle.journal.specs.Reading.{damaged};
 ghost use Rattle.gaps.specs.Gap.{on_floor, size_rows_of, gap_numbers};
 ghost use Rattle.gaps.specs.Search.{numbers_of};
 
-use clearance::measured::Distance;
+use answers::Gap;
 use journal::head;
 use polygon::limits;
 
-// The names of two shapes, and how far apart they are once both are grown; None if they meet.
-#[derive(Clone, Copy)]
-pub struct Narrowest {
-    pub first: u16,
-    pub second: u16,
-    pub distance: Option<Distance>,
-}
-
 // Returns the narrowest gap between two current shapes of a floor, grown by a cart: the first pair in the log's order
 // on a tie; None if a floor has fewer than two. No record of the log is bad, and all grown shapes are shapes.
-pub fn gap(log: &[u8], floor: u16, cart: &[i32]) -> Option<Narrowest>
+pub fn gap(log: &[u8], floor: u16, cart: &[i32]) -> Option<Gap>
     requires { (damaged (records log.now) ≡ false) × Valid cart.now
         × NoneApply (size_rows_of (points cart.now) (on_floor floor log.now)) }
     ensures { numbers_of result
@@ -39,9 +31,9 @@ pub fn gap(log: &[u8], floor: u16, cart: &[i32]) -> Option<Narrowest>
     let mut above = [0i32; limits::SHAPE_NUMBERS];
     let mut below = [0i32; limits::SHAPE_NUMBERS];
     let pair = search::narrowest(log, floor, cart, &mut shape, &mut above, &mut below)?;
-    Some(Narrowest {
-        first: head::head_at(log, pair.first).name,
-        second: head::head_at(log, pair.second).name,
+    Some(Gap {
+        name: head::head_at(log, pair.first).name,
+        other: head::head_at(log, pair.second).name,
         distance: pair.distance,
     })
 }

@@ -49,12 +49,8 @@ pub fn log_nearest(log: &[u8], list: &[i32], floor: u16, but: usize) -> Answer<N
 {
     admission::admit(list, 1)?;
     journal::survey::survey(log)?;
-    let Some(near) = neighbours::nearest(log, list, floor, but) else {
+    let Some(answer) = neighbours::nearest(log, list, floor, but) else {
         return Err(Refusal::TooFew);
-    };
-    let answer = Nearest {
-        name: near.name,
-        distance: near.distance,
     };
     Ok(OnFloor { answer, floor })
 }
@@ -73,13 +69,8 @@ pub fn log_gap(log: &[u8], cart: &[i32], floor: u16) -> Answer<Gap>
         return Err(Refusal::TooFew);
     }
     gaps::sizes::admit_sizes(log, floor, cart)?;
-    let Some(narrowest) = gaps::gap(log, floor, cart) else {
+    let Some(answer) = gaps::gap(log, floor, cart) else {
         return Err(Refusal::TooFew);
-    };
-    let answer = Gap {
-        name: narrowest.first,
-        other: narrowest.second,
-        distance: narrowest.distance,
     };
     Ok(OnFloor { answer, floor })
 }

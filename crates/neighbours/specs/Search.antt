@@ -24,44 +24,44 @@ use Rattle.journal.specs.Current.{around}
 use Rattle.journal.specs.Survey.{record_at, next_at}
 use Rattle.neighbours.specs.Nearest.{shape_of, nearest_of, nearest_numbers}
 use Rattle.neighbours.specs.Spacing.{spacing_numbers, fraction_of, Sized}
-use Rattle.neighbours.specs.declared.Near.{Near}
+use Rattle.answers.specs.declared.Nearest.{Nearest}
 
-abbrev pub near_numbers : Option Near → List ℤ
+abbrev pub near_numbers : Option Nearest → List ℤ
 near_numbers None = []
 near_numbers (Some w) = pos w.name ∷ spacing_numbers w.distance
 
 abbrev pub is_latest : List ℕ → ℕ → Bool
 is_latest b p = not (held (name (record_at b p)) (records (drop (next_at b p) b)))
 
-abbrev pub is_nearer : Fraction → Option Near → Bool
+abbrev pub is_nearer : Fraction → Option Nearest → Bool
 is_nearer f None = true
 is_nearer f (Some w) = not (no_more (fraction_of w.distance) f)
 
-abbrev pub is_met : Option Near → Bool
+abbrev pub is_met : Option Nearest → Bool
 is_met None = false
 is_met (Some w) = is_none w.distance
 
-abbrev pub kept_of : Bool → Near → Option Near → Option Near
+abbrev pub kept_of : Bool → Nearest → Option Nearest → Option Nearest
 kept_of now w best = cond (is_nearer (fraction_of w.distance) best && now) (Some w) best
 
-abbrev pub NearSized : Option Near → Type 0
+abbrev pub NearSized : Option Nearest → Type 0
 NearSized None = Unit {0}
 NearSized (Some w) = Sized w.distance
 
-abbrev pub NotNearer : Extent → List Point → Option Near → Type 0
+abbrev pub NotNearer : Extent → List Point → Option Nearest → Type 0
 NotNearer e S best = (A : List Point) → IsShape A → Extends A e → is_nearer (distance A S) best ≡ false
 
-pub record Best (A : List Point) (all : List (List ℕ)) (w : Near) (rest : List (List ℕ)) : Type 0 where
+pub record Best (A : List Point) (all : List (List ℕ)) (w : Nearest) (rest : List (List ℕ)) : Type 0 where
   pub one : List ℕ
   pub shape : IsShape (shape_of one)
   pub name-is : name one ≡ w.name
   pub spacing-is : spacing_numbers w.distance ≡ clearance_numbers A (shape_of one)
   pub still : let near = nearest_of A one rest in nearest_numbers A all ≡ pos (name near) ∷ clearance_numbers A (shape_of near)
 
-abbrev pub Still : List Point → List (List ℕ) → Option Near → List (List ℕ) → Type 0
+abbrev pub Still : List Point → List (List ℕ) → Option Nearest → List (List ℕ) → Type 0
 Still A all None rest = all ≡ rest
 Still A all (Some w) rest = Best A all w rest
 
-abbrev pub Onward : List Point → ℕ → ℕ → List ℕ → ℕ → Option Near → Option Near → Type 0
+abbrev pub Onward : List Point → ℕ → ℕ → List ℕ → ℕ → Option Nearest → Option Nearest → Type 0
 Onward A f but b p best r = (all : List (List ℕ)) → Still A all best (around f but (records (drop p b)))
     → Still A all r (around f but (records (drop (next_at b p) b)))

@@ -18,23 +18,17 @@ ghost use Rattle.neighbours.specs.Spacing.{fraction_of, Sized};
 ghost use Rattle.neighbours.specs.Search.{near_numbers, is_latest, is_nearer, is_met, kept_of, NearSized};
 ghost use Rattle.neighbours.specs.Search.{NotNearer, Onward};
 
+use answers::Nearest;
 use clearance::measured::Distance;
 use journal::head::Head;
 use journal::{current, head, places};
 use polygon::extent::Extent;
 use polygon::{extent, limits};
 
-// The name of a shape and how far it is; None where they meet.
-#[derive(Clone, Copy)]
-pub struct Near {
-    pub name: u16,
-    pub distance: Option<Distance>,
-}
-
-// Returns the nearest to a shape of the current shapes on a floor, the name `but` left out, if there is one: the first in
-// the log on a tie. No record of the log is bad.
+// Returns the nearest to a shape of the current shapes on a floor, the name `but` left out, if there is one, and how far it is, None where
+// they meet: the first in the log on a tie. No record of the log is bad.
 // Ruled out: later shape on a tie; the excepted name answered.
-pub fn nearest(log: &[u8], list: &[i32], floor: u16, but: usize) -> Option<Near>
+pub fn nearest(log: &[u8], list: &[i32], floor: u16, but: usize) -> Option<Nearest>
     requires { (damaged (records log.now) ≡ false) × Valid list.now }
     ensures { near_numbers result
         ≡ nearest_numbers (points list.now) (around floor but (records log.now)) }
@@ -44,7 +38,7 @@ pub fn nearest(log: &[u8], list: &[i32], floor: u16, but: usize) -> Option<Near>
 }
 
 // The same, with a buffer that holds the numbers of any shape. The search ends at a shape that meets the given one.
-fn pass(log: &[u8], list: &[i32], floor: u16, but: usize, buffer: &mut [i32]) -> Option<Near>
+fn pass(log: &[u8], list: &[i32], floor: u16, but: usize, buffer: &mut [i32]) -> Option<Nearest>
     requires { (damaged (records log.now) ≡ false) × Valid list.now × (length buffer.old ≡ 2 * max_corners) }
     ensures { near_numbers result
         ≡ nearest_numbers (points list.now) (around floor but (records log.now)) }
@@ -69,9 +63,9 @@ fn look(
     extent: Extent,
     floor: u16,
     but: usize,
-    best: Option<Near>,
+    best: Option<Nearest>,
     buffer: &mut [i32],
-) -> Option<Near>
+) -> Option<Nearest>
     requires { Sound log.now p × Valid list.now × NearSized best × (length buffer.old ≡ 2 * max_corners)
         × Extends (points list.now) extent }
     ensures { Onward (points list.now) floor but log.now p best result
@@ -86,7 +80,7 @@ fn look(
     if is_passed(extent, shape, best) {
         return best;
     }
-    let near = Near {
+    let near = Nearest {
         name: head.name,
         distance: clearance::between(list, shape),
     };
@@ -94,7 +88,7 @@ fn look(
 }
 
 // Returns whether boxes show that a shape is not nearer than what was found. If nothing was found, none do.
-fn is_passed(extent: Extent, shape: &[i32], best: Option<Near>) -> bool
+fn is_passed(extent: Extent, shape: &[i32], best: Option<Nearest>) -> bool
     requires { Bounded extent × Valid shape.now × NearSized best }
     ensures { result ≡ true → NotNearer extent (points shape.now) best }
 {
@@ -111,7 +105,7 @@ fn is_asked(head: Head, floor: u16, but: usize) -> bool
 // The record at a place if it is nearer than what was found and is the latest of its name; else what was found. On a
 // tie the first stays. Later records are looked at last, since few records are nearer.
 // Ruled out: older record counted.
-fn kept(log: &[u8], p: usize, near: Near, best: Option<Near>) -> Option<Near>
+fn kept(log: &[u8], p: usize, near: Nearest, best: Option<Nearest>) -> Option<Nearest>
     requires { Sound log.now p × Sized near.distance × NearSized best }
     ensures { result ≡ kept_of (is_latest log.now p) near best }
 {
@@ -123,7 +117,7 @@ fn kept(log: &[u8], p: usize, near: Near, best: Option<Near>) -> Option<Near>
 }
 
 // Returns whether a distance is less than that of what was found. Any is, if nothing was found.
-fn is_nearer(distance: Option<Distance>, best: Option<Near>) -> bool
+fn is_nearer(distance: Option<Distance>, best: Option<Nearest>) -> bool
     requires { Sized distance × NearSized best }
     ensures { result ≡ is_nearer (fraction_of distance) best }
 {
@@ -131,8 +125,8 @@ fn is_nearer(distance: Option<Distance>, best: Option<Near>) -> bool
 }
 
 // Returns whether what was found meets the shape. Then no other is nearer.
-fn is_met(best: Option<Near>) -> bool
+fn is_met(best: Option<Nearest>) -> bool
     ensures { result ≡ is_met best }
 {
-    matches!(best, Some(Near { distance: None, .. }))
+    matches!(best, Some(Nearest { distance: None, .. }))
 }

@@ -9,13 +9,13 @@ use Rattle.plane.specs.Distance.{distance}
 use Rattle.extents.specs.theory.Gaps.{extends-spans}
 use Rattle.neighbours.specs.Search.{is_nearer}
 use Rattle.neighbours.specs.Spacing.{Beyond, fraction_of}
-use Rattle.neighbours.specs.declared.Near.{Near}
+use Rattle.answers.specs.declared.Nearest.{Nearest}
 use Rattle.neighbours.proofs.is_passed.Goals as goal
 
 pub returns : goal.returns
 returns c k A s x = go c.args.best refl
   where
-    go : (w : Option Near) → c.args.best ≡ w → is_nearer (distance A (points c.args.shape.now)) c.args.best ≡ false
+    go : (w : Option Nearest) → c.args.best ≡ w → is_nearer (distance A (points c.args.shape.now)) c.args.best ≡ false
     go None e = absurd (true≢false (sym k ∙ MatchOption-at_none _ _ e c.is_some_and.ensures))
     go (Some h) e =
         let far : c.is_some_and.result ≡ true → Beyond c.args.extent (points c.args.shape.now) (fraction_of h.distance) =

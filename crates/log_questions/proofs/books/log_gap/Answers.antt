@@ -67,7 +67,7 @@ returns-in_default c =
 
 pub returns : goal.returns
 returns c =
-    let gap = c.in-Some.narrowest in
+    let gap = c.in-Some.answer in
     gap-found _ (lent (goal.at.returns c).Start) (held c.in_ok-admit.ensures) (sound (goal.at.returns c).In_ok-survey)
     (two (goal.at.returns c).Else-count-lt2) (held c.in_ok-admit_sizes.ensures)
-    (ap (λ vs. pos gap.first ∷ pos gap.second ∷ vs) (distance-numbers gap.distance) ∙ c.in-Some.ensures)
+    (ap (λ vs. pos gap.name ∷ pos gap.other ∷ vs) (distance-numbers gap.distance) ∙ c.in-Some.ensures)

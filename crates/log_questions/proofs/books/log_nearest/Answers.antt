@@ -32,4 +32,4 @@ returns-in_default c =
 pub returns : goal.returns
 returns c =
     nearest-somebody _ _ _ _ (held c.in_ok-admit.ensures) (sound (goal.at.returns c).In_ok-survey) _ _
-    (ap (λ vs. pos c.in-Some.near.name ∷ vs) (distance-numbers c.in-Some.near.distance) ∙ c.in-Some.ensures)
+    (ap (λ vs. pos c.in-Some.answer.name ∷ vs) (distance-numbers c.in-Some.answer.distance) ∙ c.in-Some.ensures)
