@@ -6,7 +6,6 @@ use Rattle.journal.proofs.theory.Survey.{next-inside}
 use Rattle.journal.proofs.theory.Stepping.{reached-sound}
 use Rattle.journal.proofs.theory.Marks.{marked_next}
 use Rattle.journal.proofs.theory.Walk.{on-start, on-here, on-next, on-end}
-use Rattle.packing.specs.theory.Copying.{copied-length}
 use Rattle.packing.specs.theory.Passes.{Packs, packs-start, packs-length, packs-few, packs-skip, packs-room, packs-copy}
 use Rattle.packing.specs.theory.Passes.{packs-end}
 use Rattle.packing.proofs.pack.Goals as goal
@@ -31,9 +30,6 @@ is_kept-requires c =
 pub next_at-requires : goal.next_at-requires
 next_at-requires c = (on-here c.loop-p.invariant c.in-Some.ensures.steps).0
 
-pub overflow_sub-size : goal.overflow_sub-size
-overflow_sub-size c = omega (arith, c.next_at.ensures)
-
 pub copy-need-requires : goal.copy-need-requires
 copy-need-requires c =
     let it = on-here c.loop-p.invariant c.in-Some.ensures.steps in
@@ -42,9 +38,6 @@ copy-need-requires c =
       omega (arith, room (goal.at.copy-need-requires c).After-next_at, packs-length inv),
       packs-few inv,
     )
-
-pub overflow_add-q : goal.overflow_add-q
-overflow_add-q c = omega (arith, room (goal.at.overflow_add-q c).After-next_at)
 
 pub loop-p-preserved-then-is_kept : goal.loop-p-preserved-then-is_kept
 loop-p-preserved-then-is_kept c =
@@ -74,10 +67,6 @@ pub blank-need-requires : goal.blank-need-requires
 blank-need-requires c =
     let inv = (on-end c.loop-p.invariant c.in-None.ensures.steps).1.0 in
     (omega (arith, packs-length inv, inv.fits), packs-few inv)
-
-pub shape_of-new : goal.shape_of-new
-shape_of-new c =
-    copied-length c.blank-need.ensures ∙ packs-length (on-end c.loop-p.invariant c.in-None.ensures.steps).1.0
 
 pub returns : goal.returns
 returns c =

@@ -1,6 +1,6 @@
 -- `entry` meets its contract. The invariant: what is at position k of all is at position `left` of those from p on.
 use Rattle.std.specs.Prelude.{ℕ, ◌-◌}
-use Rattle.std.proofs.Common.{sym, ◌∙◌, arith}
+use Rattle.std.proofs.Common.{sym, ◌∙◌}
 use Rattle.journal.specs.Marks.{Marked, places_of}
 use Rattle.journal.proofs.theory.Stepping.{reached-sound}
 use Rattle.journal.proofs.theory.Marks.{marked_next}
@@ -24,9 +24,6 @@ pub returns-then-left-eq0 : goal.returns-then-left-eq0
 returns-then-left-eq0 c =
     let it = on-here c.loop-p.invariant c.in-Some.ensures.steps in
     nth-found it.1.0 it.0 (sym c.is_latest.ensures ∙ c.if-is_latest.true) c.if-left-eq0.true c.head_at.ensures
-
-pub overflow_sub-left : goal.overflow_sub-left
-overflow_sub-left c = omega (arith, c.if-left-eq0.false)
 
 pub loop-p-preserved-then-is_latest : goal.loop-p-preserved-then-is_latest
 loop-p-preserved-then-is_latest c =

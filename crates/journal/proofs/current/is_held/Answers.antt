@@ -22,9 +22,6 @@ pub loop-p-init : goal.loop-p-init
 loop-p-init c =
     on-start c.into_iter-p-iterator.ensures.into_iter_gives c.from-p-items.ensures (ahead-start _ _ _ c.requires)
 
-pub overflow_add-p : goal.overflow_add-p
-overflow_add-p c = omega (arith, name-inside (here c))
-
 pub pair_at-requires : goal.pair_at-requires
 pair_at-requires c = omega (arith, name-inside (here c))
 

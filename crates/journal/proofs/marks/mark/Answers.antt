@@ -17,12 +17,6 @@ pub loop-p-init : goal.loop-p-init
 loop-p-init c =
     on-start c.into_iter-p-iterator.ensures.into_iter_gives c.all-p-items.ensures (marking-start _ _ c.requires.0 c.requires.2)
 
-pub overflow_cast-table : goal.overflow_cast-table
-overflow_cast-table c = omega (arith, name-inside (here (goal.at.overflow_cast-table c).In-Some), c.requires.1)
-
-pub overflow_add-p : goal.overflow_add-p
-overflow_add-p c = omega (arith, name-inside (here c))
-
 pub pair_at-requires : goal.pair_at-requires
 pair_at-requires c = omega (arith, name-inside (here c))
 

@@ -13,9 +13,6 @@ returns-in-Plain c =
     let t = drop c.args.p c.args.log.now in
     sym (ap (λ (k : ℕ). cond (eqb k 2) (pair_at t 6) 0) (c.requires.1 ∙ ap number c.in-Plain.is))
 
-pub overflow_add-p : goal.overflow_add-p
-overflow_add-p c = omega (arith, c.requires.0.inside)
-
 pub pair_at-requires : goal.pair_at-requires
 unfolding fixed_bytes
 pair_at-requires c =

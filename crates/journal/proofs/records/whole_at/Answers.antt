@@ -25,12 +25,6 @@ fits c =
       | else-size-ne0 w ↦ absurd (true≢false (sym c.if-size-room.true ∙ w.value-is ∙ ap not (eq-eqb _ 0 w.if-size-ne0.false)))
     ]
 
-pub overflow_add-result-then-size-room : goal.overflow_add-result-then-size-room
-overflow_add-result-then-size-room c = omega (arith, fits c)
-
-pub bounds-log-p : goal.bounds-log-p
-bounds-log-p c = omega (arith, fits (goal.at.bounds-log-p c).Then-size-room)
-
 pub returns-then-size-room : goal.returns-then-size-room
 returns-then-size-room c =
     let args = c.args in
