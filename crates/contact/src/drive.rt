@@ -1,43 +1,16 @@
 // Inner functions: where a place that moves straight first meets a shape.
-ghost use Rattle.std.specs.Prelude.{◌≡◌, ◌*◌, ltb};
+ghost use Rattle.std.specs.Prelude.{◌≡◌};
 ghost use Rattle.plane.specs.Point.{points};
 ghost use Rattle.plane.specs.Refusal.{Valid};
 ghost use Rattle.polygon.specs.Point.{at};
 ghost use Rattle.motion.specs.Contact.{contact_numbers};
 ghost use Rattle.contact.specs.Share.{Places, meeting_numbers};
 
-use crate::share::Share;
 use crate::walls;
+use answers::Meeting;
 use measure::magnitude;
 use polygon::point;
 use polygon::point::Point;
-
-// Where something is met: the fraction of the way in lowest terms, and the millimetres up to there, rounded down.
-#[derive(Clone, Copy)]
-pub struct Meeting {
-    pub numerator: u64,
-    pub denominator: u64,
-    pub safe: u64,
-}
-
-impl Meeting {
-    // Whether this is met sooner than another one on the same way, by the products.
-    pub fn is_before(self, other: Meeting) -> bool
-        ensures { result ≡ ltb (self.numerator * other.denominator) (other.numerator * self.denominator) }
-    {
-        self.share().is_less(other.share())
-    }
-
-    // The fraction of the way.
-    fn share(self) -> Share
-        ensures { (result.numerator ≡ self.numerator) × (result.denominator ≡ self.denominator) }
-    {
-        Share {
-            numerator: self.numerator,
-            denominator: self.denominator,
-        }
-    }
-}
 
 // Where the way from t to u first meets a shape: at the last entry through its walls, unless that comes after the way
 // leaves one, which is where the way back enters it. None if it never meets it.

@@ -14,7 +14,7 @@ ghost use Rattle.growth.specs.Grown.{grown};
 ghost use Rattle.motion.specs.Contact.{contact_numbers};
 ghost use Rattle.contact.specs.Share.{Places, meeting_numbers};
 
-use drive::Meeting;
+use answers::Meeting;
 use polygon::point::Point;
 use polygon::{limits, peak};
 use separation::differences;

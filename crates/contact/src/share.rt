@@ -7,6 +7,7 @@ ghost use Rattle.motion.specs.Contact.{entering as contact_entering, later as co
 ghost use Rattle.motion.specs.Contact.{lowest as contact_lowest};
 ghost use Rattle.contact.specs.Share.{fraction, exceed as share_exceed};
 
+use answers::Meeting;
 use measure::magnitude;
 use wide::arithmetic;
 
@@ -115,6 +116,20 @@ impl Share {
             }
         }
         low
+    }
+}
+
+// The fraction of the way at which something is met.
+impl From<Meeting> for Share {
+    ghost use Rattle.contact.specs.Share.{share_of};
+
+    ghost from_gives = { λ m s. s ≡ share_of m };
+
+    fn from(meeting: Meeting) -> Share {
+        Share {
+            numerator: meeting.numerator,
+            denominator: meeting.denominator,
+        }
     }
 }
 

@@ -2,7 +2,7 @@
 // `questions`.
 #![tactic(auto)]
 
-ghost use Rattle.std.specs.Prelude.{false, ◌≡◌, [], ◌∷◌, pos};
+ghost use Rattle.std.specs.Prelude.{false, ◌≡◌, [], ◌∷◌};
 ghost use Rattle.plane.specs.Point.{point};
 ghost use Rattle.plane.specs.Floor.{on};
 ghost use Rattle.plane.specs.Refusal.{some_outside};
@@ -10,14 +10,10 @@ ghost use Rattle.plane.specs.Question.{reply};
 ghost use Rattle.polygon.specs.Point.{at};
 ghost use Rattle.admission.specs.Admission.{Judged};
 ghost use Rattle.motion.specs.Contact.{ask_contact, place_row};
-ghost use Rattle.contact.specs.Share.{meeting_numbers};
 ghost use Rattle.drives.specs.Drive.{ask_drive};
-ghost use Rattle.drives.specs.Search.{found_numbers};
-ghost use Rattle.answers.specs.Answer.{of_contact, of_drive, found_values, meeting_values};
+ghost use Rattle.answers.specs.Answer.{of_contact, of_drive};
 
-use answers::{Answer, Drive, OnFloor, Refusal};
-use contact::drive::Meeting;
-use drives::Soonest;
+use answers::{Answer, Drive, Meeting, OnFloor, Refusal};
 use polygon::limits;
 use polygon::point::Point;
 
@@ -35,7 +31,7 @@ pub fn contact(
     y: i32,
     u: i32,
     v: i32,
-) -> Answer<Option<answers::Meeting>>
+) -> Answer<Option<Meeting>>
     ensures { of_contact result ≡ reply
         (ask_contact (on obstacle.now f) (on cart.now g) (point x y) (point u v)) }
 {
@@ -50,7 +46,7 @@ fn driven(
     g: u16,
     from: Point,
     to: Point,
-) -> Answer<Option<answers::Meeting>>
+) -> Answer<Option<Meeting>>
     ensures { of_contact result ≡ reply
         (ask_contact (on obstacle.now f) (on cart.now g) (at from) (at to)) }
 {
@@ -58,7 +54,7 @@ fn driven(
     admit_place(from, 3)?;
     admit_place(to, 4)?;
     passage::admit_grown(obstacle, cart)?;
-    let answer = met(contact::first(obstacle, cart, from, to));
+    let answer = contact::first(obstacle, cart, from, to);
     Ok(OnFloor { answer, floor: f })
 }
 
@@ -70,17 +66,6 @@ fn admit_place(p: Point, which: usize) -> Result<(), Refusal>
         return Err(Refusal::Range { shape: which });
     }
     Ok(())
-}
-
-// What is met, as an answer.
-fn met(found: Option<Meeting>) -> Option<answers::Meeting>
-    ensures { found_values meeting_values result ≡ meeting_numbers found }
-{
-    found.map(|m| answers::Meeting {
-        numerator: m.numerator,
-        denominator: m.denominator,
-        safe: m.safe,
-    })
 }
 
 // Which of the current shapes of a floor a cart meets first that drives straight from (x, y) to (u, v), without
@@ -117,20 +102,6 @@ fn along(log: &[u8], cart: &[i32], floor: u16, from: Point, to: Point) -> Answer
     admit_place(from, 2)?;
     admit_place(to, 3)?;
     gaps::sizes::admit_sizes(log, floor, cart)?;
-    let answer = reached(drives::first(log, floor, cart, from, to));
+    let answer = drives::first(log, floor, cart, from, to);
     Ok(OnFloor { answer, floor })
-}
-
-// What is met of a floor, as an answer.
-fn reached(found: Option<Soonest>) -> Option<Drive>
-    ensures { found_values (λ d. pos d.name ∷ meeting_values d.meeting) result ≡ found_numbers found }
-{
-    found.map(|s| Drive {
-        name: s.name,
-        meeting: answers::Meeting {
-            numerator: s.meeting.numerator,
-            denominator: s.meeting.denominator,
-            safe: s.meeting.safe,
-        },
-    })
 }

@@ -18,22 +18,16 @@ ghost use Rattle.gaps.specs.Search.{Walk};
 ghost use Rattle.drives.specs.Drive.{drive_numbers};
 ghost use Rattle.drives.specs.Search.{found_numbers, is_latest, is_sooner, kept_of, MetAs, Onward};
 
-use contact::drive::Meeting;
+use answers::{Drive, Meeting};
+use contact::share::Share;
 use gaps::growing;
 use journal::{current, head, places};
 use polygon::limits;
 use polygon::point::Point;
 
-// The name of the first shape that is met, and where it is met.
-#[derive(Clone, Copy)]
-pub struct Soonest {
-    pub name: u16,
-    pub meeting: Meeting,
-}
-
 // Returns the first current shape of a floor that a cart meets on its way from t to u, if it meets one: the first in the
 // log on a tie. No record of the log is bad, and all grown shapes are shapes.
-pub fn first(log: &[u8], floor: u16, cart: &[i32], t: Point, u: Point) -> Option<Soonest>
+pub fn first(log: &[u8], floor: u16, cart: &[i32], t: Point, u: Point) -> Option<Drive>
     requires { (damaged (records log.now) ≡ false) × Valid cart.now × Places (at t) (at u)
         × NoneApply (size_rows_of (points cart.now) (on_floor floor log.now)) }
     ensures { found_numbers result
@@ -56,9 +50,9 @@ fn look(
     cart: &[i32],
     t: Point,
     u: Point,
-    best: Option<Soonest>,
+    best: Option<Drive>,
     buffer: &mut [i32; limits::SHAPE_NUMBERS],
-) -> Option<Soonest>
+) -> Option<Drive>
     requires { Walk (points cart.now) log.now floor p × Sound log.now p × Valid cart.now
         × Places (at t) (at u) }
     ensures { Onward (points cart.now) (at t) (at u) floor log.now p best result }
@@ -89,7 +83,7 @@ fn meet(obstacle: &[i32], cart: &[i32], t: Point, u: Point) -> Option<Meeting>
 // The record at a place if it is met sooner than what was found and is the latest of its name; else what was found.
 // Later records are looked at last, since few records are sooner.
 // Ruled out: older record counted.
-fn kept(log: &[u8], p: usize, met: Option<Meeting>, best: Option<Soonest>) -> Option<Soonest>
+fn kept(log: &[u8], p: usize, met: Option<Meeting>, best: Option<Drive>) -> Option<Drive>
     requires { Sound log.now p }
     ensures { result
         ≡ kept_of (is_latest log.now p) (format_name (record_at log.now p)) met best }
@@ -98,7 +92,7 @@ fn kept(log: &[u8], p: usize, met: Option<Meeting>, best: Option<Soonest>) -> Op
         return best;
     };
     if is_sooner(meeting, best) && current::is_current(log, p) {
-        return Some(Soonest {
+        return Some(Drive {
             name: head::head_at(log, p).name,
             meeting,
         });
@@ -108,11 +102,11 @@ fn kept(log: &[u8], p: usize, met: Option<Meeting>, best: Option<Soonest>) -> Op
 
 // Whether a shape is met sooner than what was found.
 // Ruled out: later shape on a tie.
-fn is_sooner(meeting: Meeting, best: Option<Soonest>) -> bool
+fn is_sooner(meeting: Meeting, best: Option<Drive>) -> bool
     ensures { result ≡ is_sooner meeting best }
 {
     match best {
-        Some(found) => meeting.is_before(found.meeting),
+        Some(found) => Share::from(meeting).is_less(Share::from(found.meeting)),
         None => true,
     }
 }

@@ -68,9 +68,9 @@ returns-in_err-admit_sizes c =
     (sound (goal.at.returns-in_err-admit_sizes c).In_ok-survey) (some (goal.at.returns-in_err-admit_sizes c).Else-is_empty)
     (held c.in_ok-admit_place.ensures) (held c.in_ok-admit_place-2.ensures) (refusal-of c.in_err-admit_sizes.ensures))
 
-pub first-requires : goal.first-requires
-first-requires c = (
-  sound (goal.at.first-requires c).In_ok-survey,
+pub first-answer-requires : goal.first-answer-requires
+first-answer-requires c = (
+  sound (goal.at.first-answer-requires c).In_ok-survey,
   held c.in_ok-admit.ensures,
   record {
     from-near = in-range _ (held c.in_ok-admit_place.ensures);
@@ -84,4 +84,4 @@ returns c =
     drive-found _ (lent (goal.at.returns c).Start) _ _ (held c.in_ok-admit.ensures)
     (sound (goal.at.returns c).In_ok-survey) (some (goal.at.returns c).Else-is_empty)
     (held c.in_ok-admit_place.ensures) (held c.in_ok-admit_place-2.ensures)
-    (held c.in_ok-admit_sizes.ensures) (c.reached-answer.ensures ∙ c.first.ensures)
+    (held c.in_ok-admit_sizes.ensures) c.first-answer.ensures

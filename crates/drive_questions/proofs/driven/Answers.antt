@@ -60,8 +60,8 @@ returns-in_err-admit_grown c =
     (refuses-join (place_row 3 (at c.args.from) ∷ place_row 4 (at c.args.to) ∷ [])
     (held c.in_ok-admit_place.ensures, (held c.in_ok-admit_place-2.ensures, tt)) (refusal-of c.in_err-admit_grown.ensures))).0
 
-pub first-requires : goal.first-requires
-first-requires c =
+pub first-answer-requires : goal.first-answer-requires
+first-answer-requires c =
     let all = held c.in_ok-admit_pair.ensures in (
       all.first-valid,
       all.second-valid,
@@ -74,7 +74,7 @@ first-requires c =
 
 pub returns : goal.returns
 returns c =
-    ap (λ (vs : List ℤ). answered (vs ++ (pos c.args.f ∷ []))) (c.met-answer.ensures ∙ c.first.ensures)
+    ap (λ (vs : List ℤ). answered (vs ++ (pos c.args.f ∷ []))) c.first-answer.ensures
     ∙ sym (contact-answers (one (goal.at.returns c).Start) (other (goal.at.returns c).Start) _ _ (held c.in_ok-admit_pair.ensures) (
       held c.in_ok-admit_place.ensures,
       (held c.in_ok-admit_place-2.ensures, held c.in_ok-admit_grown.ensures),

@@ -23,14 +23,14 @@ use Rattle.journal.proofs.theory.Survey.{next-inside}
 use Rattle.journal.proofs.theory.Stepping.{later-good}
 use Rattle.motion.specs.Contact.{contact, safe, contact_numbers}
 use Rattle.contact.specs.Share.{meeting_numbers}
-use Rattle.contact.specs.declared.drive.Meeting.{Meeting}
+use Rattle.answers.specs.declared.Meeting.{Meeting}
 use Rattle.gaps.specs.Gap.{grown_of, on_floor}
 use Rattle.gaps.specs.Search.{from, is_on, Walk}
 use Rattle.gaps.proofs.theory.Steps.{from_step, from_end, walk-next, walk-fits}
 use Rattle.gaps.proofs.theory.Read.{on-elsewhere, on-here}
 use Rattle.drives.specs.Drive.{is_met, is_as_soon, met_numbers, soonest_numbers, drive_numbers}
 use Rattle.drives.specs.Search.{is_latest, found_numbers, is_sooner, soonest, MetAs, kept_of, Met, Still, Onward}
-use Rattle.drives.specs.declared.Soonest.{Soonest}
+use Rattle.answers.specs.declared.Drive.{Drive}
 use Rattle.drives.specs.theory.Soonest.{soonest-step}
 
 module _ (A : List Point) (t u : Point) where
@@ -76,7 +76,7 @@ module _ (A : List Point) (t u : Point) where
 
   module _ (all : List (List ℕ)) where
     -- records that are not met change nothing
-    still-same : (s : Option Soonest) (rs ss : List (List ℕ)) → ones rs ≡ ones ss → Still A t u all s rs → Still A t u all s ss
+    still-same : (s : Option Drive) (rs ss : List (List ℕ)) → ones rs ≡ ones ss → Still A t u all s rs → Still A t u all s ss
     still-same None rs ss e x = x ∙ ap (soonest_numbers A t u) e
     still-same (Some s) rs ss e x = record {
       one = x.one;
@@ -100,7 +100,7 @@ module _ (A : List Point) (t u : Point) where
             (lt_z-false {x = pos (j.numerator * i.denominator)} {y = pos (i.numerator * j.denominator)} q)
 
     module _ (rest : List (List ℕ)) (y : List ℕ) (n : ℕ) (named : name y ≡ n) where
-      met-kept : (j : Meeting) → is_met A t u y ≡ true → Met A t u y j → (s : Option Soonest) → Still A t u all s (y ∷ rest)
+      met-kept : (j : Meeting) → is_met A t u y ≡ true → Met A t u y j → (s : Option Drive) → Still A t u all s (y ∷ rest)
           → Still A t u all (cond (is_sooner j s && true) (Some (soonest n j)) s) rest
       met-kept j e m None x = record {
         one = y;
@@ -132,12 +132,12 @@ module _ (A : List Point) (t u : Point) where
             still = step (tests x.one y s.meeting j x.met m q);
           }
 
-      pub still_kept : (m : Option Meeting) (s : Option Soonest) → meeting_numbers m ≡ contact_numbers t u (grown_of A y) → Still A t u all s (y ∷ rest)
+      pub still_kept : (m : Option Meeting) (s : Option Drive) → meeting_numbers m ≡ contact_numbers t u (grown_of A y) → Still A t u all s (y ∷ rest)
           → Still A t u all (kept_of true n m s) rest
       still_kept None s e x = still-same s (y ∷ rest) rest (ones_step y rest (never_met y e)) x
       still_kept (Some m) s e x = let k = at-met y m e in met-kept m k.0 k.1 s x
 
-  still-end : (all : List (List ℕ)) (s : Option Soonest) → Still A t u all s [] → found_numbers s ≡ drive_numbers A t u all
+  still-end : (all : List (List ℕ)) (s : Option Drive) → Still A t u all s [] → found_numbers s ≡ drive_numbers A t u all
   still-end all None x = sym x
   still-end all (Some s) x =
       ap₂ (λ (m v : ℕ). pos 1 ∷ pos m ∷ pos s.meeting.numerator ∷ pos s.meeting.denominator ∷ pos v ∷ []) (sym x.name-is) x.met.safe-is
@@ -146,7 +146,7 @@ module _ (A : List Point) (t u : Point) where
       ∙ sym x.still
 
 -- an older record of its name is passed over
-kept-older : (n : ℕ) (m : Option Meeting) (s : Option Soonest) → kept_of false n m s ≡ s
+kept-older : (n : ℕ) (m : Option Meeting) (s : Option Drive) → kept_of false n m s ≡ s
 kept-older n None s = refl
 kept-older n (Some m) s = go (is_sooner m s)
   where
@@ -157,7 +157,7 @@ kept-older n (Some m) s = go (is_sooner m s)
 -- ---- at a place of a log
 
 module _ {A : List Point} {b : List ℕ} {f p : ℕ} (k : Walk A b f p) (sound : Sound b p) {h : Head} (st : Stated b p h) (t u : Point)
-    (s : Option Soonest) where
+    (s : Option Drive) where
   -- by whether the record is one of the floor's
   onward-off : is_on f b p ≡ false → Onward A t u f b p s s
   onward-off e all x = subst (Still A t u all s) (from_step f b p sound.here e) x
@@ -176,15 +176,15 @@ module _ {A : List Point} {b : List ℕ} {f p : ℕ} (k : Walk A b f p) (sound :
 
 -- ---- the loop
 
-pub record Searched (A : List Point) (t u : Point) (f : ℕ) (b : List ℕ) (p : ℕ) (s : Option Soonest) : Type 0 where
+pub record Searched (A : List Point) (t u : Point) (f : ℕ) (b : List ℕ) (p : ℕ) (s : Option Drive) : Type 0 where
   pub walk : Walk A b f p
   pub still : Still A t u (from f b 0) s (from f b p)
 
 pub searched-start : (A : List Point) (t u : Point) (f : ℕ) (b : List ℕ) → Walk A b f 0 → Searched A t u f b 0 None
 searched-start A t u f b w = record { walk = w; still = refl }
 
-module _ {A : List Point} {t u : Point} {f : ℕ} {b : List ℕ} {p : ℕ} {s : Option Soonest} (x : Searched A t u f b p s) where
-  pub searched-next : whole (drop p b) ≡ true → {r : Option Soonest} → Onward A t u f b p s r → Searched A t u f b (next_at b p) r
+module _ {A : List Point} {t u : Point} {f : ℕ} {b : List ℕ} {p : ℕ} {s : Option Drive} (x : Searched A t u f b p s) where
+  pub searched-next : whole (drop p b) ≡ true → {r : Option Drive} → Onward A t u f b p s r → Searched A t u f b (next_at b p) r
   searched-next w on = record { walk = walk-next A x.walk w; still = on (from f b 0) x.still }
 
   pub searched-end : whole (drop p b) ≡ false → found_numbers s ≡ drive_numbers A t u (on_floor f b)
