@@ -73,18 +73,18 @@ fn told_of_one(question: OnOne, fields: &Fields, list: &mut [i32]) -> Reply {
     let (a, f) = (first.numbers, first.floor());
     let out = lend(list, second.room());
     match question {
-        OnOne::Judge => reply::of_answer(shape_questions::judge(a, f)),
+        OnOne::Judge => reply::of(shape_questions::judge(a, f)),
         OnOne::Furthest => {
             let (u, v) = second.direction();
-            reply::of_furthest(shape_questions::furthest(a, f, u, v))
+            reply::of(shape_questions::furthest(a, f, u, v))
         }
-        OnOne::Mirror => reply::of_answer(shape_questions::mirror(a, f, out)),
-        OnOne::Sweep => reply::of_answer(shape_questions::sweep(a, f, out)),
-        OnOne::Ring => reply::of_answer(rings::ring(a, f, out)),
-        OnOne::Length => reply::of_length(shape_questions::length(a, f)),
-        OnOne::Area => reply::of_area(shape_questions::area(a, f)),
-        OnOne::Width => reply::of_width(shape_questions::width(a, f)),
-        OnOne::Box => reply::of_box(boxing::least_box(a, f)),
+        OnOne::Mirror => reply::of(shape_questions::mirror(a, f, out)),
+        OnOne::Sweep => reply::of(shape_questions::sweep(a, f, out)),
+        OnOne::Ring => reply::of(rings::ring(a, f, out)),
+        OnOne::Length => reply::of(shape_questions::length(a, f)),
+        OnOne::Area => reply::of(shape_questions::area(a, f)),
+        OnOne::Width => reply::of(shape_questions::width(a, f)),
+        OnOne::Box => reply::of(boxing::least_box(a, f)),
         OnOne::Tablet => readings::tablet(first, second),
     }
 }
@@ -96,34 +96,34 @@ fn told_of_pair(question: OnPair, fields: &Fields, list: &mut [i32]) -> Reply {
     let (b, g) = (second.numbers, second.floor());
     let (u, v) = third.direction();
     match question {
-        OnPair::Sum => reply::of_answer(pair_questions::sum(a, f, b, g, lend(list, third.room()))),
+        OnPair::Sum => reply::of(pair_questions::sum(a, f, b, g, lend(list, third.room()))),
         OnPair::Part => {
             let out = lend(list, fourth.count(1));
-            reply::of_part(walks::part(first, second, third, fourth, out))
+            reply::of(walks::part(first, second, third, fourth, out))
         }
         OnPair::Merge => {
             let out = lend(list, third.room());
-            reply::of_answer(pair_questions::merge(a, f, b, g, out))
+            reply::of(pair_questions::merge(a, f, b, g, out))
         }
         OnPair::Grow => {
             let out = lend(list, third.room());
-            reply::of_answer(pair_questions::grow(a, f, b, g, out))
+            reply::of(pair_questions::grow(a, f, b, g, out))
         }
-        OnPair::Relation => reply::of_relation(pair_questions::relation(a, f, b, g)),
-        OnPair::Inside => reply::of_inside(pair_questions::inside(a, f, b, g)),
-        OnPair::Offer => reply::of_offer(separators::offer(a, f, b, g, u, v)),
-        OnPair::Find => reply::of_separator(separators::find(a, f, b, g)),
-        OnPair::Clearance => reply::of_clearance(pair_questions::clearance(a, f, b, g)),
-        OnPair::Greatest => reply::of_greatest(reaches::greatest(a, f, b, g)),
-        OnPair::Excess => reply::of_excess(changes::excess(a, f, b, g)),
-        OnPair::Tangents => reply::of_tangents(pair_questions::tangents(a, f, b, g)),
+        OnPair::Relation => reply::of(pair_questions::relation(a, f, b, g)),
+        OnPair::Inside => reply::of(pair_questions::inside(a, f, b, g)),
+        OnPair::Offer => reply::of(separators::offer(a, f, b, g, u, v)),
+        OnPair::Find => reply::of(separators::find(a, f, b, g)),
+        OnPair::Clearance => reply::of(pair_questions::clearance(a, f, b, g)),
+        OnPair::Greatest => reply::of(reaches::greatest(a, f, b, g)),
+        OnPair::Excess => reply::of(changes::excess(a, f, b, g)),
+        OnPair::Tangents => reply::of(pair_questions::tangents(a, f, b, g)),
         OnPair::Passage => {
             let (c, h) = (third.numbers, third.floor());
-            reply::of_passage(pair_questions::passage(a, f, b, g, c, h))
+            reply::of(pair_questions::passage(a, f, b, g, c, h))
         }
         OnPair::Contact => {
             let (s, t) = fourth.direction();
-            reply::of_contact(drive_questions::contact(a, f, b, g, u, v, s, t))
+            reply::of(drive_questions::contact(a, f, b, g, u, v, s, t))
         }
     }
 }
@@ -140,22 +140,22 @@ fn told_of_log(
     let (b, g) = (second.numbers, second.floor());
     let out = lend(list, third.room());
     match question {
-        OnLog::Read => reply::of_answer(log_questions::log_read(log, second.name(), out)),
+        OnLog::Read => reply::of(log_questions::log_read(log, second.name(), out)),
         OnLog::Add => {
             let (c, h) = (third.numbers, third.floor());
             let added = log_questions::log_add(log, second.name(), h, c, fourth.room());
             reply::of_addition(added)
         }
-        OnLog::Entry => reply::of_entry(books::log_entry(log, second.count(0), out)),
+        OnLog::Entry => reply::of(books::log_entry(log, second.count(0), out)),
         OnLog::Nearest => {
             let near = books::log_nearest(log, b, g, third.but() as usize);
-            reply::of_nearest(near)
+            reply::of(near)
         }
-        OnLog::Gap => reply::of_gap(books::log_gap(log, b, g)),
+        OnLog::Gap => reply::of(books::log_gap(log, b, g)),
         OnLog::Contact => {
             let (u, v) = third.direction();
             let (s, t) = fourth.direction();
-            reply::of_drive(drive_questions::log_contact(log, b, g, u, v, s, t))
+            reply::of(drive_questions::log_contact(log, b, g, u, v, s, t))
         }
         OnLog::Pack => reply::of_addition(books::log_pack(log, run, third.but(), fourth.room())),
     }

@@ -3,12 +3,11 @@ ghost use Rattle.std.specs.Prelude.{◌≡◌};
 ghost use Rattle.std.specs.Float.{binary64};
 ghost use Rattle.std.specs.Float.Ieee.{nan_bits};
 
-use answers::Tablet;
 use reply::Reply;
 use tablet::reading::Reading;
 use text::fields::Field;
 use text::readings;
-use wire::refusals;
+use wire::numbers;
 
 // The weight of the sign, of the exponent, and the exponent of an infinity or a NaN.
 const SIGN: u64 = 0x8000000000000000;
@@ -20,13 +19,8 @@ const ONES: u64 = 2047;
 // Asks for the corner of the readings of two fields. The values told are the bits of the doubles that go back.
 pub fn tablet(x: &Field, y: &Field) -> Reply {
     match tablet_questions::tablet(reading(x), reading(y)) {
-        Tablet::Corner { sent, x: _, y: _ } => Reply {
-            number: 0,
-            carried: [0; 3],
-            count: 2,
-            values: [pattern(sent.x), pattern(sent.y), 0, 0, 0, 0, 0, 0, 0],
-        },
-        Tablet::No(refusal) => refusals::of_unread(refusal),
+        Ok(corner) => numbers::answered([pattern(corner.sent.x), pattern(corner.sent.y)]),
+        Err(refusal) => Reply::from(refusal),
     }
 }
 

@@ -1,7 +1,8 @@
 // The questions on a sum in parts: calls from the beginning on, and one call from any state of a walk.
 use crate::replies;
 use crate::replies::Form;
-use part_questions::answer::{Begun, Part};
+use answers::Answer;
+use part_questions::answer::Part;
 use part_questions::walk;
 use part_questions::walk::Walk;
 use polygon::limits::SHAPE_NUMBERS;
@@ -14,10 +15,11 @@ use text::fields::{Field, Fields};
 pub fn parts(out: &mut impl Write, form: Form, fields: &Fields) -> io::Result<()> {
     let [a, b, calls, _] = &fields.each;
     let begun = walk::begin(a.numbers, a.floor(), b.numbers, b.floor());
-    replies::add(out, &reply::of_begun(begun), form, &[])?;
-    let Begun::At { mut walk, .. } = begun else {
+    replies::add(out, &reply::of(begun), form, &[])?;
+    let Ok(begun) = begun else {
         return Ok(());
     };
+    let mut walk = begun.answer;
     for call in calls.numbers.chunks_exact(2) {
         if let [k, room] = call {
             let room = room.unsigned_abs() as usize;
@@ -40,15 +42,12 @@ fn next(
     let lent = &mut list[..room.min(SHAPE_NUMBERS)];
     let part = walk.part(a.numbers, a.floor(), b.numbers, b.floor(), k, lent);
     write!(out, " | ")?;
-    replies::add(out, &reply::of_part(part), Form::Call, &list)?;
-    match part {
-        Part::Corners { walk, .. } => Ok(walk),
-        Part::No(_) => Ok(walk),
-    }
+    replies::add(out, &reply::of(part), Form::Call, &list)?;
+    Ok(part.map_or(walk, |part| part.answer.walk))
 }
 
 // Makes one call from the state of a walk.
-pub fn part(a: &Field, b: &Field, state: &Field, call: &Field, out: &mut [i32]) -> Part {
+pub fn part(a: &Field, b: &Field, state: &Field, call: &Field, out: &mut [i32]) -> Answer<Part> {
     let walk = Walk {
         first: state.count(0),
         second: state.count(1),
