@@ -9,7 +9,8 @@
 --     exceed f g            f and g, parts of a way from its two ends, are together more than the way
 --     box_corner h l d       the corner furthest in direction d of the box with these greatest coordinates, h of points and l of opposites
 --     is_past h l d p q      p and q are further in direction d than that; is_beside h l d p q: or both in the opposite direction
-use Rattle.std.specs.Prelude.{◌≡◌, Bool, false, cond, ◌&&◌, ◌||◌, List, [], ◌∷◌, ℕ, suc, ◌+◌, ltb, ℤ, pos, neg_ℤ, ◌-ℤ◌, ◌*ℤ◌, length, Option}
+use Rattle.std.specs.Prelude.{◌≡◌, Bool, false, cond, ◌&&◌, ◌||◌, List, [], ◌∷◌, ℕ, suc, ◌+◌, ltb, ℤ, pos, neg_ℤ, ◌-ℤ◌, ◌*ℤ◌, length}
+use Rattle.std.specs.Prelude.{Option}
 use Rattle.std.specs.Int.Signed.{lt_z}
 use Rattle.plane.specs.Limits.{max_coordinate}
 use Rattle.plane.specs.Point.{Point, point, opposite}

@@ -25,8 +25,8 @@ use journal::{current, head, places};
 use polygon::limits;
 use polygon::point::Point;
 
-// Returns the first current shape of a floor that a cart meets on its way from t to u, if it meets one: the first in the
-// log on a tie. No record of the log is bad, and all grown shapes are shapes.
+// Returns the first current shape of a floor that a cart meets on its way from t to u, if it meets one: the first in
+// the log on a tie. No record of the log is bad, and all grown shapes are shapes.
 pub fn first(log: &[u8], floor: u16, cart: &[i32], t: Point, u: Point) -> Option<Drive>
     requires { (damaged (records log.now) ≡ false) × Valid cart.now × Places (at t) (at u)
         × NoneApply (size_rows_of (points cart.now) (on_floor floor log.now)) }

@@ -29,7 +29,8 @@ is_further a b = ltb (a.ratio.turn * a.ratio.turn * b.ratio.squared) (b.ratio.tu
 pub record HasFar (N O : List Point) (i : ℕ) (r : Far) : Type 0 where
   pub corner-is : r.corner ≡ i
   pub whole : 0 < r.ratio.squared
-  pub as-far : pos (r.ratio.turn * r.ratio.turn) *ℤ (beyond (corner N i) O).denominator ≡ (beyond (corner N i) O).numerator *ℤ pos r.ratio.squared
+  pub as-far : pos (r.ratio.turn * r.ratio.turn) *ℤ (beyond (corner N i) O).denominator ≡ (beyond
+      (corner N i) O).numerator *ℤ pos r.ratio.squared
 
 -- never of the third kind: nothing falls strictly inside a point
 abbrev pub RoundedDown : Distance → Type 0

@@ -17,7 +17,8 @@
 --     Fits A r           6 and 7 let the grown shape of a record pass; `rows_at A f b p` these rows of the record at place p, if it is on
 --     numbers_of g        what the inner function answers, as numbers
 --     Walk A b f p       what a loop knows at place p: no record from there on is bad, and the floor's shapes fit when they are grown
-use Rattle.std.specs.Prelude.{◌≡◌, Bool, true, false, not, cond, ◌&&◌, List, [], ◌∷◌, ◌++◌, map, ℕ, ◌≤◌, ◌<◌, ℤ, pos, length, drop, ◌<ℤ◌, Option, Some, None}
+use Rattle.std.specs.Prelude.{◌≡◌, Bool, true, false, not, cond, ◌&&◌, List, [], ◌∷◌, ◌++◌, map, ℕ, ◌≤◌, ◌<◌, ℤ, pos, length, drop, ◌<ℤ◌}
+use Rattle.std.specs.Prelude.{Option, Some, None}
 use Rattle.plane.specs.Point.{Point}
 use Rattle.plane.specs.Shape.{IsShape}
 use Rattle.plane.specs.Reply.{Row, NoneApply}

@@ -57,7 +57,8 @@ fn from(
     above: &mut [i32; limits::SHAPE_NUMBERS],
     below: &mut [i32; limits::SHAPE_NUMBERS],
 ) -> Option<Best>
-    requires { Walk (points cart.now) log.now floor p × Sound log.now p × Valid cart.now × Told (points cart.now) log.now best }
+    requires { Walk (points cart.now) log.now floor p × Sound log.now p × Valid cart.now
+        × Told (points cart.now) log.now best }
     ensures { Passed (points cart.now) log.now (pairs_at floor log.now p) best result }
 {
     if !floor::is_on(log, p, floor) {

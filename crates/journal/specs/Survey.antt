@@ -10,7 +10,8 @@
 --     newer n h r        what is found once a record with this head is looked at: it replaces what was found if it has the name
 --     Latest n b r       this of the latest record of the name n, or nowhere
 --     Entered b k r      the head of the current record at position k, or that there are too few
-use Rattle.std.specs.Prelude.{◌≡◌, true, false, cond, Option, None, Some, Result, Ok, Err, List, [], ℕ, ◌+◌, ◌*◌, ◌%◌, ◌≤◌, ◌<◌, eqb, length, get_or, take, drop}
+use Rattle.std.specs.Prelude.{◌≡◌, true, false, cond, Option, None, Some, Result, Ok, Err, List, [], ℕ, ◌+◌, ◌*◌, ◌%◌, ◌≤◌, ◌<◌, eqb}
+use Rattle.std.specs.Prelude.{length, get_or, take, drop}
 use Rattle.plane.specs.Limits.{max_corners}
 use Rattle.endian.specs.Bytes.{words_at}
 use Rattle.journal.specs.Format.{fixed_bytes, size, whole, records, kind, name, floor, list}

@@ -9,7 +9,8 @@ use crate::head::Head;
 use crate::marks::Table;
 use crate::{head, places, records};
 
-// Returns what the current record at a position says, if there are as many. Positions count from 0, in the order of the log.
+// Returns what the current record at a position says, if there are as many. Positions count from 0, in the order of the
+// log.
 // Ruled out: older record of a name counted; floor before latest.
 pub fn entry(log: &[u8], k: usize) -> Option<Head>
     requires { damaged (records log.now) ≡ false }

@@ -25,8 +25,8 @@ use journal::{current, head, places};
 use polygon::extent::Extent;
 use polygon::{extent, limits};
 
-// Returns the nearest to a shape of the current shapes on a floor, the name `but` left out, if there is one, and how far it is, None where
-// they meet: the first in the log on a tie. No record of the log is bad.
+// Returns the nearest to a shape of the current shapes on a floor, the name `but` left out, if there is one, and how
+// far it is, None where they meet: the first in the log on a tie. No record of the log is bad.
 // Ruled out: later shape on a tie; the excepted name answered.
 pub fn nearest(log: &[u8], list: &[i32], floor: u16, but: usize) -> Option<Nearest>
     requires { (damaged (records log.now) ≡ false) × Valid list.now }

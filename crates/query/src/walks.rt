@@ -10,8 +10,8 @@ use std::io;
 use std::io::Write;
 use text::fields::{Field, Fields};
 
-// Begins a sum, and makes its calls from there on: adds what each answers, after a bar. Of each call the numbers are how
-// many corners it may write, and the room. The next is given the walk last handed back.
+// Begins a sum, and makes its calls from there on: adds what each answers, after a bar. Of each call the numbers are
+// how many corners it may write, and the room. The next is given the walk last handed back.
 pub fn parts(out: &mut impl Write, form: Form, fields: &Fields) -> io::Result<()> {
     let [a, b, calls, _] = &fields.each;
     let begun = walk::begin(a.numbers, a.floor(), b.numbers, b.floor());

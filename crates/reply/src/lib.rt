@@ -250,8 +250,8 @@ impl Told for Gap {
     }
 }
 
-// How far a changed shape reaches: 0 if it is inside the old one; 1 and two corners, or 2 and a corner and an edge, with
-// the distance rounded up.
+// How far a changed shape reaches: 0 if it is inside the old one; 1 and two corners, or 2 and a corner and an edge,
+// with the distance rounded up.
 impl Told for Option<Beyond> {
     ghost values = { beyond_values };
 

@@ -29,7 +29,8 @@ pub fn is_below(a: &[i32], b: &[i32], d: Point) -> bool
     greatest < least
 }
 
-// A direction that is accepted, its parts with no common divisor above 1; none exactly if the shapes are not apart. Which
+// A direction that is accepted, its parts with no common divisor above 1; none exactly if the shapes are not apart.
+// Which
 // of the directions it is, is left open. It leads away from the differences, if any does: it is the normal of the first
 // edge that has the origin to its right. If none has, only a point or a segment in line with the origin can have it
 // outside, and then it is the opposite of a corner.

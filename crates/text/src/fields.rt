@@ -1,5 +1,5 @@
-// The fields of a question: the text of each, and its numbers. The numbers of all fields of a line are in one list, which
-// the caller lends.
+// The fields of a question: the text of each, and its numbers. The numbers of all fields of a line are in one list,
+// which the caller lends.
 use crate::numbers::Numbers;
 use crate::readings::Reading;
 use crate::reasons::Reason;
@@ -200,7 +200,8 @@ pub struct Fields<'a> {
     pub each: [Field<'a>; FIELDS],
 }
 
-// Reads the fields of a line, or says why it is no question. The reasons come in this order: too few fields or too many;
+// Reads the fields of a line, or says why it is no question. The reasons come in this order: too few fields or too
+// many;
 // what is wrong in the text of the first field that cannot be read; what is wrong with the numbers of the first field
 // that does not hold what its kind says.
 pub fn read<'a>(

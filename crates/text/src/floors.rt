@@ -5,8 +5,8 @@ use crate::{numbers, words};
 // What a floor begins with.
 const MARK: &[u8] = b"@";
 
-// Returns the floor that the text of a field says, 0 if it says none; nothing if its first word should be a floor and is
-// not.
+// Returns the floor that the text of a field says, 0 if it says none; nothing if its first word should be a floor and
+// is not.
 pub fn read(text: &[u8]) -> Option<u16> {
     match words::first(text).strip_prefix(MARK) {
         Some(number) => u16::try_from(numbers::number(number)?).ok(),

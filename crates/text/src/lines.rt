@@ -97,8 +97,8 @@ impl<R: Read + Drop> Lines<R> {
         Ok(byte)
     }
 
-    // Adds a byte to the line. A space that finds no room is dropped: all that can follow it is spaces, or something that
-    // finds no room itself.
+    // Adds a byte to the line. A space that finds no room is dropped: all that can follow it is spaces, or something
+    // that finds no room itself.
     fn add(&mut self, byte: u8) {
         if self.line.try_push(byte).is_err() && !words::is_space(byte) {
             self.too_long = true;

@@ -18,8 +18,8 @@ impl fmt::Display for Failure {
     }
 }
 
-// A reader or a writer that makes calls again. A proved loop has to end, so these count their turns, up to a number that
-// no run uses up.
+// A reader or a writer that makes calls again. A proved loop has to end, so these count their turns, up to a number
+// that no run uses up.
 #[derive(Drop)]
 pub struct Patient<T>(pub T);
 

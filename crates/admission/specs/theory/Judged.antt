@@ -42,6 +42,7 @@ refusal-of j = j.no _ refl
 pub handed-on : {T E : Type 0} (x : Result T E) (r : E) → IsErrAnd x (λ y. y ≡ r) → x ≡ Err r
 handed-on x r h = let p = err_from_is_err_and x h in p.1 ∙ ap (λ y. Err y) p.2
 
-pub hands-on : {T : Type 0} {rows : List Row} (x : Result Unit Refusal) (r : Refusal) → IsErrAnd x (λ y. y ≡ r) → Refuses rows (of_refusal r)
+pub hands-on : {T : Type 0} {rows : List Row} (x : Result Unit Refusal) (r : Refusal) → IsErrAnd x (λ y. y ≡ r)
+    → Refuses rows (of_refusal r)
     → Judged T rows x
 hands-on {T} {rows} x r h f = subst (λ y. Judged T rows y) (sym (handed-on x r h)) (turns-away f)

@@ -59,7 +59,12 @@ loop-i-preserved c =
 whole : (c : After-loop-i)
     → twice_area (points c.args.list.now) ≡ to_z w64 c.loop-i.sum-bits
 whole c =
-    partial-all _ c.loop-i.i (omega (arith, c.requires.shape.some)) (omega (arith, c.count-n.ensures, c.loop-i-test.false, c.requires.shape.some))
+    partial-all _ c.loop-i.i (omega (arith, c.requires.shape.some)) (omega (
+      arith,
+      c.count-n.ensures,
+      c.loop-i-test.false,
+      c.requires.shape.some,
+    ))
     ∙ sym c.loop-i.invariant
 
 pub returns : goal.returns

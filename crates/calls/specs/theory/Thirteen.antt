@@ -3,7 +3,8 @@
 --     kept_above, answered-low                     it writes nothing, and what is answered is on a floor within the limit
 --     answered-zero, separator-found               0 tells an answer
 --     added-same, added-refused                    an addition to a log
-use Rattle.std.specs.Prelude.{◌≡◌, refl, Bool, true, false, ◌||◌, List, [], ◌∷◌, ◌++◌, map, ℕ, ◌≤◌, ◌<◌, ltb, ℤ, pos, length, Option, Some, None}
+use Rattle.std.specs.Prelude.{◌≡◌, refl, Bool, true, false, ◌||◌, List, [], ◌∷◌, ◌++◌, map, ℕ, ◌≤◌, ◌<◌, ltb, ℤ, pos, length, Option, Some}
+use Rattle.std.specs.Prelude.{None}
 use Rattle.std.proofs.Math.Path.{sym}
 use Rattle.std.proofs.Common.{◌∙◌, ap, arith, lit<, lit≤}
 use Rattle.std.proofs.Math.Bool.{or-true}

@@ -31,7 +31,8 @@ barred-refused f = f.is ∙ sym (first_row-given _ f.first)
 barred-passed : (rows : List Row) → NoneApply rows → refused 13 [] ≡ barred rows
 barred-passed rows n = sym (first_row-none rows _ n)
 
-pub judged-told : {T : Type 0} {rows : List Row} {ns : List ℕ} (x : Result Unit Refusal) → Judged T rows x → (T → refused 13 [] ≡ barred rows)
+pub judged-told : {T : Type 0} {rows : List Row} {ns : List ℕ} (x : Result Unit Refusal) → Judged T rows x → (T
+    → refused 13 [] ≡ barred rows)
     → OnOk x (ns ≡ crossed (refused 13 [])) → IfErr x (λ r. ns ≡ crossed (of_refusal r)) → ns ≡ crossed (barred rows)
 judged-told (Ok _) j thirteen ok err = ok ∙ ap crossed (thirteen (j.valid refl))
 judged-told (Err r) j thirteen ok err = err ∙ ap crossed (barred-refused (refusal-of j))

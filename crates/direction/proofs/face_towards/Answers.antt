@@ -73,7 +73,8 @@ reaches-requires-then-next-n c =
 pub returns-then-reaches-2 : goal.returns-then-reaches-2
 returns-then-reaches-2 c =
     let face = face-onward c.requires.1 c.requires.3 c.first_furthest-here.ensures c.count-n.ensures
-    c.if-next-n.true (sym (test-is (goal.at.returns-then-reaches-2 c).After-count-n _ c.reaches-then-next-n.ensures) ∙ c.if-reaches-2.true) in
+    c.if-next-n.true (sym (test-is (goal.at.returns-then-reaches-2 c).After-count-n _ c.reaches-then-next-n.ensures)
+    ∙ c.if-reaches-2.true) in
     record { first_value = face.0; last_value = face.1; value_value = value-is (goal.at.returns-then-reaches-2 c).After-value_at-value }
 
 pub returns-else-next-n : goal.returns-else-next-n

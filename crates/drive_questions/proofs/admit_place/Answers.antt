@@ -10,7 +10,8 @@ use Rattle.plane.specs.Reply.{here}
 use Rattle.plane.specs.Refusal.{outside, some_outside}
 use Rattle.admission.specs.theory.Judged.{refuses, passes, turns-away}
 use Rattle.drive_questions.proofs.admit_place.Goals as goal
-use Rattle.drive_questions.proofs.admit_place.Goals.{After-outside, After-outside-else-outside, then-outside-via-then-outside, then-outside-via-else-outside+then-outside-2}
+use Rattle.drive_questions.proofs.admit_place.Goals.{After-outside, After-outside-else-outside, then-outside-via-then-outside}
+use Rattle.drive_questions.proofs.admit_place.Goals.{then-outside-via-else-outside+then-outside-2}
 
 -- row 3, by both tests
 either : (x y : ℤ) {a b : Bool} → outside x ≡ a → outside y ≡ b → some_outside (x ∷ y ∷ []) ≡ (a || (b || false))

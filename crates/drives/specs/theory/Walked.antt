@@ -132,7 +132,8 @@ module _ (A : List Point) (t u : Point) where
             still = step (tests x.one y s.meeting j x.met m q);
           }
 
-      pub still_kept : (m : Option Meeting) (s : Option Drive) → meeting_numbers m ≡ contact_numbers t u (grown_of A y) → Still A t u all s (y ∷ rest)
+      pub still_kept : (m : Option Meeting) (s : Option Drive) → meeting_numbers m ≡ contact_numbers t u (grown_of A y)
+          → Still A t u all s (y ∷ rest)
           → Still A t u all (kept_of true n m s) rest
       still_kept None s e x = still-same s (y ∷ rest) rest (ones_step y rest (never_met y e)) x
       still_kept (Some m) s e x = let k = at-met y m e in met-kept m k.0 k.1 s x

@@ -6,5 +6,6 @@ use Rattle.endian.proofs.put.Goals as goal
 
 pub returns : goal.returns
 returns c =
-    word-stored c.args.z c.ranges.z _ _ _ _ (rw (to_z-of_z {w = w32} c.ranges.z) at (c.copy_from_slice.ensures.after ∙ c.to_le_bytes.ensures))
+    word-stored c.args.z c.ranges.z _ _ _ _ (rw (to_z-of_z {w = w32} c.ranges.z) at (c.copy_from_slice.ensures.after
+    ∙ c.to_le_bytes.ensures))
     (omega arith) (omega arith)

@@ -11,7 +11,8 @@ pub narrowest-requires : goal.narrowest-requires
 narrowest-requires c = let pre = c.requires in (walk_start _ _ _ pre.0 pre.2, pre.1)
 
 pub returns-in_err-pair : goal.returns-in_err-pair
-returns-in_err-pair c = ap numbers_of c.from_residual.ensures ∙ answer-nothing _ _ _ c.narrowest.result c.narrowest.ensures (c.in_err-pair.was)
+returns-in_err-pair c = ap numbers_of c.from_residual.ensures
+    ∙ answer-nothing _ _ _ c.narrowest.result c.narrowest.ensures (c.in_err-pair.was)
 
 -- the pair that was found
 found : (c : In_ok-pair) → let args = c.args in let pair = c.in_ok-pair.pair in

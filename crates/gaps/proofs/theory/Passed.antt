@@ -64,7 +64,8 @@ module _ (A : List Point) where
     }
 
     -- one that is nearer is kept
-    passed-nearer : (p q : ℕ) (w : Option Distance) → Found A b p q w → (s : Option Best) → Told A b s → is_nearer (gap_of A (pair_at b p q)) s ≡ true
+    passed-nearer : (p q : ℕ) (w : Option Distance) → Found A b p q w → (s : Option Best) → Told A b s
+        → is_nearer (gap_of A (pair_at b p q)) s ≡ true
         → Passed A b (pair_at b p q ∷ []) s (Some (best p q w))
     passed-nearer p q w f None t e = record { told = f; gaps = (f.has-gap, tt); still = λ rest a. refl }
     passed-nearer p q w f (Some v) t e = record {

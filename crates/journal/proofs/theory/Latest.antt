@@ -1,7 +1,8 @@
 -- A pass over the records of a log that keeps the latest of a name.
 --     SoFar n b p r          what is found up to place p of b, and what is still to come
 --     so-far-start, so-far-next, so-far-end     the moves of the pass
-use Rattle.std.specs.Prelude.{◌≡◌, refl, Option, None, Some, is_some, Bool, true, false, cond, ◌||◌, List, [], ◌∷◌, ℕ, ◌+◌, ◌*◌, ◌%◌, ◌≤◌, eqb, length, drop}
+use Rattle.std.specs.Prelude.{◌≡◌, refl, Option, None, Some, is_some, Bool, true, false, cond, ◌||◌, List, [], ◌∷◌, ℕ, ◌+◌, ◌*◌, ◌%◌, ◌≤◌}
+use Rattle.std.specs.Prelude.{eqb, length, drop}
 use Rattle.std.proofs.Common.{◌∙◌, ap, ap₂}
 use Rattle.std.proofs.Math.Bool.{or-true}
 use Rattle.plane.specs.Floor.{Floored, on}

@@ -92,7 +92,8 @@ module _ (A : List Point) (s : IsShape A) where
     stays b e =
         record { one = b.one; shape = b.shape; name-is = b.name-is; spacing-is = b.spacing-is; still = next b e }
 
-    pub still-passed : (best : Option Nearest) → Still A all best (y ∷ rest) → is_nearer (distance A (shape_of y)) best ≡ false → Still A all best
+    pub still-passed : (best : Option Nearest) → Still A all best (y ∷ rest) → is_nearer (distance A (shape_of y)) best ≡ false
+        → Still A all best
         rest
     still-passed None b e = absurd (true≢false e)
     still-passed (Some t) b e = stays b (far (not-false _ e))
@@ -101,7 +102,8 @@ module _ (A : List Point) (s : IsShape A) where
         far h = as-near b.one y (subst (λ (f : Fraction). no_more f (distance A (shape_of y)) ≡ true)
             (spacing-fraction A (shape_of b.one) t.distance b.spacing-is) h)
 
-    pub still_kept : (u : Nearest) → name y ≡ u.name → spacing_numbers u.distance ≡ clearance_numbers A (shape_of y) → (best : Option Nearest)
+    pub still_kept : (u : Nearest) → name y ≡ u.name → spacing_numbers u.distance ≡ clearance_numbers A (shape_of y)
+        → (best : Option Nearest)
         → Still A all best (y ∷ rest) → Still A all (kept_of true u best) rest
     still_kept u named spaced None b = record {
       one = y;

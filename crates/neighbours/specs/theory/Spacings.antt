@@ -1,7 +1,8 @@
 -- The distance of two shapes as the code holds it.
 --     ratio-less          ratios compare as the fractions that they are; `ratio-no_more`: and with others
 --     spacing-fraction    what clearance answers tells the distance; `spacing-sized`: and what it is divided by is not 0
-use Rattle.std.specs.Prelude.{◌≡◌, refl, Bool, true, false, not, cond, Option, Some, None, List, [], ◌∷◌, ℕ, ◌*◌, ◌<◌, ltb, ℤ, ◌*ℤ◌, ◌≤ℤ◌, ◌<ℤ◌}
+use Rattle.std.specs.Prelude.{◌≡◌, refl, Bool, true, false, not, cond, Option, Some, None, List, [], ◌∷◌, ℕ, ◌*◌, ◌<◌, ltb, ℤ, ◌*ℤ◌, ◌≤ℤ◌}
+use Rattle.std.specs.Prelude.{◌<ℤ◌}
 use Rattle.std.proofs.Common.{sym, ◌∙◌, subst, arith, ltb-true, ltb-false, le→leb, lt→ltb}
 use Rattle.std.proofs.Math.Path.{ap, ap₂}
 use Rattle.std.proofs.Math.IntN.{pos, nat_abs}

@@ -33,7 +33,8 @@ loop-p-preserved-then-is_kept c =
     let steps = c.in-Some.ensures.steps in
     let it = on-here c.loop-p.invariant steps in
     let count = c.loop-p.n + (c.next_at.result - c.in-Some.p) in
-    on-next c.loop-p.invariant (λ (p : ℕ). Measured args.old.now args.but p count × Marked args.old.now (places_of c.of-table.result) p) steps (
+    on-next c.loop-p.invariant (λ (p : ℕ). Measured args.old.now args.but p count
+    × Marked args.old.now (places_of c.of-table.result) p) steps (
       subst (λ (p : ℕ). Measured args.old.now args.but p count) c.next_at.ensures
           (measured-kept it.1.0 it.0 c.next_at.ensures (sym c.is_kept.ensures ∙ c.if-is_kept.true)),
       marked_next it.1.1 it.0,
@@ -44,7 +45,8 @@ loop-p-preserved c =
     let args = c.args in
     let steps = c.in-Some.ensures.steps in
     let it = on-here c.loop-p.invariant steps in
-    on-next c.loop-p.invariant (λ (p : ℕ). Measured args.old.now args.but p c.loop-p.n × Marked args.old.now (places_of c.of-table.result) p) steps
+    on-next c.loop-p.invariant (λ (p : ℕ). Measured args.old.now args.but p c.loop-p.n
+    × Marked args.old.now (places_of c.of-table.result) p) steps
     (measured-skipped it.1.0 it.0 refl (sym c.is_kept.ensures ∙ c.if-is_kept.false), marked_next it.1.1 it.0)
 
 pub returns : goal.returns

@@ -19,7 +19,8 @@ other c = on c.args.b.now c.args.g
 pub returns-in_err-admit_pair : goal.returns-in_err-admit_pair
 returns-in_err-admit_pair c =
     rw (handed-on _ _ c.from_residual.ensures.1)
-    (shapes-refused (ask_merge (one (goal.at.returns-in_err-admit_pair c).Start) (other (goal.at.returns-in_err-admit_pair c).Start) c.args.out.now)
+    (shapes-refused (ask_merge (one (goal.at.returns-in_err-admit_pair c).Start) (other
+    (goal.at.returns-in_err-admit_pair c).Start) c.args.out.now)
     (refusal-of c.in_err-admit_pair.ensures))
 
 pub merge-requires : goal.merge-requires

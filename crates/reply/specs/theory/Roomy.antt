@@ -137,7 +137,8 @@ pub nearest-room : (x : Told Nearest) → Room (of_nearest x)
 nearest-room x = floor-room (λ n. pos n.name ∷ distance_values n.distance) (λ n. let few = distance-few n.distance in omega arith) x
 
 pub gap-room : (x : Told Gap) → Room (of_gap x)
-gap-room x = floor-room (λ g. pos g.name ∷ pos g.other ∷ distance_values g.distance) (λ g. let few = distance-few g.distance in omega arith) x
+gap-room x = floor-room (λ g. pos g.name ∷ pos g.other ∷ distance_values g.distance)
+    (λ g. let few = distance-few g.distance in omega arith) x
 
 pub excess-room : (x : Told (Option Beyond)) → Room (of_excess x)
 excess-room x = floor-room beyond_values beyond-few x

@@ -31,11 +31,13 @@ use Rattle.tablet.specs.declared.reading.Fault.TheVariants.{NotFinite, NotWhole,
 module _ (r : Reading) where
   pub reads-not-finite : not_finite r ≡ true → Err NotFinite ≡ read_as r
   unfolding read_as
-  reads-not-finite a = ap (λ b. cond b (Err NotFinite) (cond (not_whole r) (Err NotWhole) (cond (far r) (Err Far) (Ok (whole_number r))))) (sym a)
+  reads-not-finite a = ap (λ b. cond b (Err NotFinite) (cond (not_whole r) (Err NotWhole) (cond (far r) (Err Far) (Ok
+      (whole_number r))))) (sym a)
 
   past-finite : not_finite r ≡ false → cond (not_whole r) (Err NotWhole) (cond (far r) (Err Far) (Ok (whole_number r))) ≡ read_as r
   unfolding read_as
-  past-finite a = ap (λ b. cond b (Err NotFinite) (cond (not_whole r) (Err NotWhole) (cond (far r) (Err Far) (Ok (whole_number r))))) (sym a)
+  past-finite a = ap (λ b. cond b (Err NotFinite) (cond (not_whole r) (Err NotWhole) (cond (far r) (Err Far) (Ok (whole_number r)))))
+      (sym a)
 
   pub reads-not-whole : not_finite r ≡ false → not_whole r ≡ true → Err NotWhole ≡ read_as r
   reads-not-whole a w = ap (λ b. cond b (Err NotWhole) (cond (far r) (Err Far) (Ok (whole_number r)))) (sym w) ∙ past-finite a
@@ -55,7 +57,8 @@ pub reads-alike : (r t : Reading) → not_finite r ≡ not_finite t → not_whol
 unfolding read_as far
 reads-alike r t a w n =
     ap (λ b. cond b (Err NotFinite) (cond (not_whole r) (Err NotWhole) (cond (outside (whole_number r)) (Err Far) (Ok (whole_number r))))) a
-    ∙ ap (λ b. cond (not_finite t) (Err NotFinite) (cond b (Err NotWhole) (cond (outside (whole_number r)) (Err Far) (Ok (whole_number r))))) w
+    ∙ ap (λ b. cond (not_finite t) (Err NotFinite) (cond b (Err NotWhole) (cond (outside (whole_number r)) (Err Far) (Ok
+    (whole_number r))))) w
     ∙ ap (λ z. cond (not_finite t) (Err NotFinite) (cond (not_whole t) (Err NotWhole) (cond (outside z) (Err Far) (Ok z)))) n
 
 -- ---- millimetres

@@ -17,7 +17,8 @@ module _ {a : List ℕ} {w : ℕ} where
   unfolding value
   scaling-start h = record { within = omega arith; long = h; sum = omega arith }
 
-  pub scaling-more : {l : List ℕ} {c i : ℕ} (r q : ℕ) → Scaling a w l c i → i < length a → r + q * 2 ^ 64 ≡ slice_index a i * w + c → Scaling a w (slice_set l i r) q (i + 1)
+  pub scaling-more : {l : List ℕ} {c i : ℕ} (r q : ℕ) → Scaling a w l c i → i < length a → r + q * 2 ^ 64 ≡ slice_index a i * w + c
+      → Scaling a w (slice_set l i r) q (i + 1)
   scaling-more {l} {c} {i} r q s h e =
       record {
         within = omega arith;

@@ -33,7 +33,11 @@ write-n-requires c =
       subst Valid read (here-valid pre.0),
       pre.1,
       c.top.ensures,
-      subst (λ (l : List ℤ). 2 * length (shape_of (differences (points l) A)) ≤ length c.args.out.now) read (omega (arith, few, c.told-out)),
+      subst (λ (l : List ℤ). 2 * length (shape_of (differences (points l) A)) ≤ length c.args.out.now) read (omega (
+        arith,
+        few,
+        c.told-out,
+      )),
     )
 
 -- the grown shape is at the front of the output

@@ -66,10 +66,12 @@ returns-in_default c =
 
 pub returns-then-is_current : goal.returns-then-is_current
 returns-then-is_current c =
-    judged-by (rows_are (goal.at.returns-then-is_current c).Start (on-as (goal.at.returns-then-is_current c).After-is_current c.if-is_current.true))
+    judged-by (rows_are (goal.at.returns-then-is_current c).Start (on-as
+    (goal.at.returns-then-is_current c).After-is_current c.if-is_current.true))
     (turns-away ((judged (goal.at.returns-then-is_current c).After-admit_grown).no _ c.in-Err.is))
 
 pub returns-else-is_current : goal.returns-else-is_current
 returns-else-is_current c =
-    judged-by (rows_are (goal.at.returns-else-is_current c).Start (on-as (goal.at.returns-else-is_current c).After-is_current c.if-is_current.false))
+    judged-by (rows_are (goal.at.returns-else-is_current c).Start (on-as
+    (goal.at.returns-else-is_current c).After-is_current c.if-is_current.false))
     (passes tt)

@@ -14,7 +14,8 @@ other z h = le-lt_z {x = pos 0} {y = z} (le_z-true {x = z} {y = pos 0} h)
 pub loop-kept-preserved : goal.loop-kept-preserved
 loop-kept-preserved c =
     settle-drop c.loop-kept.invariant c.loop-kept-test.true
-    (sym (ap (lt_z (pos 0)) (result-is w64 c.turn_on.type_inv c.turn_on.ensures)) ∙ other (to_z w64 (of_z w64 c.turn_on.result)) c.if-turn_on-le0.true)
+    (sym (ap (lt_z (pos 0)) (result-is w64 c.turn_on.type_inv c.turn_on.ensures))
+    ∙ other (to_z w64 (of_z w64 c.turn_on.result)) c.if-turn_on-le0.true)
 
 strict : (z : ℤ) → le_z z (pos 0) ≡ false → lt_z (pos 0) z ≡ true
 strict z h = lt-lt_z {x = pos 0} {y = z} (le_z-false {x = z} {y = pos 0} h)
@@ -22,7 +23,8 @@ strict z h = lt-lt_z {x = pos 0} {y = z} (le_z-false {x = z} {y = pos 0} h)
 pub returns-else-turn_on-le0 : goal.returns-else-turn_on-le0
 returns-else-turn_on-le0 c =
     settle-keep c.loop-kept.invariant c.loop-kept-test.true
-    (sym (ap (lt_z (pos 0)) (result-is w64 c.turn_on.type_inv c.turn_on.ensures)) ∙ strict (to_z w64 (of_z w64 c.turn_on.result)) c.if-turn_on-le0.false)
+    (sym (ap (lt_z (pos 0)) (result-is w64 c.turn_on.type_inv c.turn_on.ensures))
+    ∙ strict (to_z w64 (of_z w64 c.turn_on.result)) c.if-turn_on-le0.false)
 
 pub returns-after-loop-kept : goal.returns-after-loop-kept
 returns-after-loop-kept c = settle-short c.loop-kept.invariant c.loop-kept-test.false

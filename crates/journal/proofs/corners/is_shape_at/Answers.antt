@@ -45,11 +45,19 @@ kept c =
     (omega (arith, words_at-length args.log.now args.n args.p, fits (goal.at.After-decode c).Else-exceeds_corners))
 
 pub slice_bounds-passes-end : goal.slice_bounds-passes-end
-slice_bounds-passes-end c = omega (arith, kept (goal.at.slice_bounds-passes-end c).After-decode, fits (goal.at.slice_bounds-passes-end c).Else-exceeds_corners)
+slice_bounds-passes-end c = omega (
+  arith,
+  kept (goal.at.slice_bounds-passes-end c).After-decode,
+  fits (goal.at.slice_bounds-passes-end c).Else-exceeds_corners,
+)
 
 pub slice_bounds-passes-end-2 : goal.slice_bounds-passes-end-2
 slice_bounds-passes-end-2 c =
-    sym (length-take-le _ c.decode.new.out (omega (arith, kept (goal.at.slice_bounds-passes-end-2 c).After-decode, fits (goal.at.slice_bounds-passes-end-2 c).Else-exceeds_corners)))
+    sym (length-take-le _ c.decode.new.out (omega (
+      arith,
+      kept (goal.at.slice_bounds-passes-end-2 c).After-decode,
+      fits (goal.at.slice_bounds-passes-end-2 c).Else-exceeds_corners,
+    )))
 
 pub returns : goal.returns
 returns c =

@@ -30,7 +30,8 @@ loop-p-preserved-then-is_latest c =
     let args = c.args in
     let steps = c.in-Some.ensures.steps in
     let it = on-here c.loop-p.invariant steps in
-    on-next c.loop-p.invariant (λ (p : ℕ). Nth args.k args.log.now p (c.loop-p.left - 1) × Marked args.log.now (places_of c.of-table.result) p) steps
+    on-next c.loop-p.invariant (λ (p : ℕ). Nth args.k args.log.now p (c.loop-p.left - 1)
+    × Marked args.log.now (places_of c.of-table.result) p) steps
     (nth-counted it.1.0 it.0 (sym c.is_latest.ensures ∙ c.if-is_latest.true) c.if-left-eq0.false, marked_next it.1.1 it.0)
 
 pub loop-p-preserved : goal.loop-p-preserved
@@ -38,7 +39,8 @@ loop-p-preserved c =
     let args = c.args in
     let steps = c.in-Some.ensures.steps in
     let it = on-here c.loop-p.invariant steps in
-    on-next c.loop-p.invariant (λ (p : ℕ). Nth args.k args.log.now p c.loop-p.left × Marked args.log.now (places_of c.of-table.result) p) steps
+    on-next c.loop-p.invariant (λ (p : ℕ). Nth args.k args.log.now p c.loop-p.left
+    × Marked args.log.now (places_of c.of-table.result) p) steps
     (nth-passed it.1.0 it.0 (sym c.is_latest.ensures ∙ c.if-is_latest.false), marked_next it.1.1 it.0)
 
 pub returns : goal.returns

@@ -27,7 +27,13 @@ size-read c = size-at _ _ ∙ sym c.pair_at-size.ensures.0
 
 -- past the first test it has a kind
 least : (c : Else-size-fixed_bytes) → let args = c.args in 5 ≤ size (drop args.p args.log.now)
-least c = omega (arith, c.if-size-fixed_bytes.false, c.fixed_bytes.ensures, plain-bytes, size-read (goal.at.Else-size-fixed_bytes c).After-pair_at-size)
+least c = omega (
+  arith,
+  c.if-size-fixed_bytes.false,
+  c.fixed_bytes.ensures,
+  plain-bytes,
+  size-read (goal.at.Else-size-fixed_bytes c).After-pair_at-size,
+)
 
 kind-read : (c : After-pair_at-number) → let args = c.args in
     kind (drop args.p args.log.now) ≡ c.pair_at-number.result
@@ -65,8 +71,13 @@ pair_at-size-requires c = omega (arith, inside (goal.at.pair_at-size-requires c)
 
 pub returns-then-size-fixed_bytes : goal.returns-then-size-fixed_bytes
 returns-then-size-fixed_bytes c = (
-  sym (bad-short _ (omega
-      (arith, c.if-size-fixed_bytes.true, c.fixed_bytes.ensures, plain-bytes, size-read (goal.at.returns-then-size-fixed_bytes c).After-pair_at-size))),
+  sym (bad-short _ (omega (
+    arith,
+    c.if-size-fixed_bytes.true,
+    c.fixed_bytes.ensures,
+    plain-bytes,
+    size-read (goal.at.returns-then-size-fixed_bytes c).After-pair_at-size,
+  ))),
   refl,
 )
 

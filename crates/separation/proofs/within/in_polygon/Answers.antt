@@ -15,7 +15,8 @@ use Rattle.plane.proofs.theory.lists.Sought.{true-not-false}
 use Rattle.calipers.specs.theory.Carry.{corners-fit, edges_fit}
 use Rattle.separation.proofs.Beside.{beside-start, is_right, beside-right, beside-more, beside-less, beside-all}
 use Rattle.separation.proofs.within.in_polygon.Goals as goal
-use Rattle.separation.proofs.within.in_polygon.Goals.{In-loop-t, Joined-else-passes, else-passes-via-else-passes, else-passes-via-then-passes+else-turn-lt0}
+use Rattle.separation.proofs.within.in_polygon.Goals.{In-loop-t, Joined-else-passes, else-passes-via-else-passes}
+use Rattle.separation.proofs.within.in_polygon.Goals.{else-passes-via-then-passes+else-turn-lt0}
 
 pub loop-t-init : goal.loop-t-init
 loop-t-init c =

@@ -12,7 +12,13 @@ pub sweep-n-requires : goal.sweep-n-requires
 sweep-n-requires g c =
     let args = c.args in (
       c.requires.0,
-      omega (arith, c.requires.1, points-length args.list.now, points-length (replicate g.row.N (pos 0)), length-replicate {A = ℤ} g.row.N (pos 0)),
+      omega (
+        arith,
+        c.requires.1,
+        points-length args.list.now,
+        points-length (replicate g.row.N (pos 0)),
+        length-replicate {A = ℤ} g.row.N (pos 0),
+      ),
     )
 
 pub shared_whole_as_front-deliver : goal.shared_whole_as_front-deliver

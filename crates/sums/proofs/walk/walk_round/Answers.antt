@@ -1,5 +1,5 @@
--- `walk_round` meets its contract. The invariant: if `count` corners were written when the loop began, now these are, and the walk with these
--- two sides is as far, not over, and may write more; the measure is what is left to write.
+-- `walk_round` meets its contract. The invariant: if `count` corners were written when the loop began, now these are, and the walk with
+-- these two sides is as far, not over, and may write more; the measure is what is left to write.
 use mathlib.Core.Path.{◌≡◌, refl, sym, ◌∙◌, subst}
 use mathlib.Core.Bool.{false}
 use Prim.Native.Nat.{◌+◌, ◌*◌, ◌^◌, ◌≤◌, ◌<◌}
@@ -67,7 +67,8 @@ stride-far-requires g c =
     let args = c.args in (
       c.requires.0,
       c.side_at-second.ensures.1,
-      walked_start _ _ (subst (At args.a.now (g.R.Round.shape args.b.now)) (sym (same g c.before.before.before)) c.requires.1) c.requires.2 _ _ refl refl
+      walked_start _ _ (subst (At args.a.now (g.R.Round.shape args.b.now)) (sym
+          (same g c.before.before.before)) c.requires.1) c.requires.2 _ _ refl refl
           c.side_at-first.ensures.1 c.side_at-second.ensures.2,
       room g c.before.before.before,
     )
@@ -146,12 +147,12 @@ shape_of-out-then-count-k g c =
 
 pub returns-then-count-k : goal.returns-then-count-k
 returns-then-count-k g c =
+    let entered = c.before.before.before.before.before.before.before.before.before in
     progress-done (now g c.before.before.before.before.before.before.before.before.before.before.before.before) c.here.ensures c.put.ensures
     (walked-spent (now g c.before.before.before.before.before.before.before.before.before.before.before.before).walked
     (result-is w64 c.order-c.type_inv c.order-c.ensures) _ _
     c.next-s.ensures.0 c.next-t.ensures.0 c.next-s.ensures.1 c.next-t.ensures.1
-    (λ e. c.if-s-t.false (e ∙ sym
-    (all g c.before.before.before.before.before.before.before.before.before.before.before.before.before.before.before.before.before.before)))
+    (λ e. c.if-s-t.false (e ∙ sym (all g entered.before.before.before.before.before.before.before.before.before)))
     c.if-count-k.true)
     _ c.arrived-then-count-k.ensures.0 c.arrived-then-count-k.ensures.1
 

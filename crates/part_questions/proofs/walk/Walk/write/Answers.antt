@@ -17,7 +17,8 @@ use Rattle.parts.proofs.theory.Parts.{part-remaining, part-advanced}
 use Rattle.part_questions.specs.Walk.{state_of}
 use Rattle.part_questions.specs.theory.Parts.{part-little-room, part-done, part-idle}
 use Rattle.part_questions.proofs.walk.Walk.write.Goals as goal
-use Rattle.part_questions.proofs.walk.Walk.write.Goals.{Else-not-has_room, Else-self, Start, then-self-via-then-self, then-self-via-else-self+then-k-eq0}
+use Rattle.part_questions.proofs.walk.Walk.write.Goals.{Else-not-has_room, Else-self, Start, then-self-via-then-self}
+use Rattle.part_questions.proofs.walk.Walk.write.Goals.{then-self-via-else-self+then-k-eq0}
 
 -- the two shapes
 abbrev one : Start → Floored

@@ -16,7 +16,8 @@ returns-then-is_between c =
     let high : to_z w32 (of_z w32 b.high) ≡ b.high = search rules in
     let x : to_z w32 (of_z w32 p.x) ≡ p.x = search rules in
     let y : to_z w32 (of_z w32 p.y) ≡ p.y = search rules in
-    let across : (lt_z b.left p.x && lt_z p.x b.right) ≡ true = sym (simp (left, right, x) at c.is_between.ensures) ∙ c.if-is_between.true in
+    let across : (lt_z b.left p.x && lt_z p.x b.right) ≡ true = sym (simp (left, right, x) at c.is_between.ensures)
+    ∙ c.if-is_between.true in
     rw across (simp (low, high, y) at c.is_between-then-is_between.ensures)
 
 pub returns-else-is_between : goal.returns-else-is_between
@@ -27,5 +28,6 @@ returns-else-is_between c =
     let left : to_z w32 (of_z w32 b.left) ≡ b.left = search rules in
     let right : to_z w32 (of_z w32 b.right) ≡ b.right = search rules in
     let x : to_z w32 (of_z w32 p.x) ≡ p.x = search rules in
-    let across : (lt_z b.left p.x && lt_z p.x b.right) ≡ false = sym (simp (left, right, x) at c.is_between.ensures) ∙ c.if-is_between.false in
+    let across : (lt_z b.left p.x && lt_z p.x b.right) ≡ false = sym (simp (left, right, x) at c.is_between.ensures)
+    ∙ c.if-is_between.false in
     rw across c.if-is_between.false
