@@ -2,10 +2,9 @@
 -- 02, W11). Our own, not of these documents.
 --     Refuses rows r       r is the refusal of the first of the rows that applies
 --     Judged T rows x      x says that all is well, and then T holds; or x is the refusal of the first of the rows that applies
-use Rattle.std.specs.Prelude.{◌≡◌, List}
+use Rattle.std.specs.Prelude.{◌≡◌, List, Result, Ok, Err}
 use Rattle.plane.specs.Reply.{Reply, refused, Row, First}
 use Rattle.admission.specs.declared.answer.Refusal.{Refusal}
-use Rattle.admission.specs.declared.Admission.{Admission}
 use Rattle.admission.specs.Answer.{of_refusal}
 
 pub record Refuses (rows : List Row) (r : Reply) : Type 0 where
@@ -13,6 +12,6 @@ pub record Refuses (rows : List Row) (r : Reply) : Type 0 where
   pub first : First by rows
   pub is : r ≡ refused by.number by.carries
 
-pub record Judged (T : Type 0) (rows : List Row) (x : Admission) : Type 0 where
-  pub valid : x ≡ Admission.Valid → T
-  pub no : (r : Refusal) → x ≡ Admission.No r → Refuses rows (of_refusal r)
+pub record Judged (T : Type 0) (rows : List Row) (x : Result Unit Refusal) : Type 0 where
+  pub valid : x ≡ Ok tt → T
+  pub no : (r : Refusal) → x ≡ Err r → Refuses rows (of_refusal r)

@@ -1,5 +1,4 @@
-// A refusal, and the answer of the questions that judge or write a shape. Every answer on shapes carries their floor; a
-// refusal carries none.
+// A refusal, and the answer of a question on shapes, which carries their floor. A refusal carries none.
 
 // A row of document 01's table, and what it carries: 1 to 5 the shape that is blamed, the first or the second, and 4
 // the edge and the corner that break the left rule.
@@ -58,9 +57,12 @@ pub enum Refusal {
     TooFew,
 }
 
-// How many corners a shape has that was judged or written.
+// The answer of a question on shapes, with their floor.
 #[derive(Clone, Copy)]
-pub enum Answer {
-    Corners { count: usize, floor: u16 },
-    No(Refusal),
+pub struct OnFloor<T> {
+    pub answer: T,
+    pub floor: u16,
 }
+
+// What a question on shapes gives: an answer with its floor, or a refusal.
+pub type Answer<T> = Result<OnFloor<T>, Refusal>;

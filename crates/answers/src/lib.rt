@@ -1,136 +1,37 @@
 // What the questions answer. Every answer on shapes carries their floor; a refusal carries none. Callers find these in
 // `questions::answer`.
-// Passed on: the answers of judging and delivering, from below the questions.
+// Passed on: what an inner function answers as it is asked, from below the questions.
 #![tactic(auto)]
 
-pub use admission::answer::{Answer, Refusal};
+pub use admission::answer::{Answer, OnFloor, Refusal};
 pub use clearance::measured::Distance;
-
-// The first and the last of the furthest corners, counterclockwise, and their value.
-#[derive(Clone, Copy)]
-pub enum Furthest {
-    At {
-        first: usize,
-        last: usize,
-        value: i64,
-        floor: u16,
-    },
-    No(Refusal),
-}
-
-// The greatest squared distance between two corners, and their positions.
-#[derive(Clone, Copy)]
-pub enum Length {
-    Between {
-        squared: u64,
-        from: usize,
-        to: usize,
-        floor: u16,
-    },
-    No(Refusal),
-}
-
-// Twice the area.
-#[derive(Clone, Copy)]
-pub enum Area {
-    Twice { twice: u64, floor: u16 },
-    No(Refusal),
-}
-
-// The edge that the shape is narrowest across, the corner furthest from it, the turn of that corner against the edge,
-// the edge's squared length, and the width rounded down.
-#[derive(Clone, Copy)]
-pub enum Width {
-    Across {
-        edge: usize,
-        corner: usize,
-        turn: u64,
-        squared: u64,
-        rounded: u64,
-        floor: u16,
-    },
-    No(Refusal),
-}
+pub use direction::Face;
+pub use measure::{Length, Width};
+pub use polygon::point::Point;
+pub use separation::answer::Relation;
+pub use tablet::reading::Fault;
+pub use tangents::Line;
 
 // The edge that has the least box, its greatest turn over the corners, the spread of the corners' values along it, and
 // its squared length.
 #[derive(Clone, Copy)]
-pub enum LeastBox {
-    At {
-        edge: usize,
-        height: u64,
-        along: u64,
-        squared: u64,
-        floor: u16,
-    },
-    No(Refusal),
+pub struct LeastBox {
+    pub edge: usize,
+    pub height: u64,
+    pub along: u64,
+    pub squared: u64,
 }
 
-// How two shapes relate to each other.
+// The corner of a new shape that is furthest from an old one, where the old one is nearest to it, and the distance in
+// millimetres rounded up: a corner, with the squared distance; or an edge, with the size of the corner's turn against
+// it and the edge's squared length.
 #[derive(Clone, Copy)]
-pub enum Relation {
-    Apart { floor: u16 },
-    Touching { floor: u16 },
-    Overlapping { floor: u16 },
-    No(Refusal),
-}
-
-// Whether the first shape is inside the second.
-#[derive(Clone, Copy)]
-pub enum Inside {
-    Is { within: bool, floor: u16 },
-    No(Refusal),
-}
-
-// Whether a direction is accepted as the reason that two shapes are apart.
-#[derive(Clone, Copy)]
-pub enum Offer {
-    Is { accepted: bool, floor: u16 },
-    No(Refusal),
-}
-
-// A direction that is accepted, or that there is none.
-#[derive(Clone, Copy)]
-pub enum Separator {
-    Direction { u: i32, v: i32, floor: u16 },
-    Nothing { floor: u16 },
-    No(Refusal),
-}
-
-// Nothing if the shapes are not apart. Else where they are nearest, and how near.
-#[derive(Clone, Copy)]
-pub enum Clearance {
-    None { floor: u16 },
-    Apart { distance: Distance, floor: u16 },
-    No(Refusal),
-}
-
-// The greatest squared distance of a corner of the first shape and a corner of the second, and their positions.
-#[derive(Clone, Copy)]
-pub enum Greatest {
-    At {
-        squared: u64,
-        first: usize,
-        second: usize,
-        floor: u16,
-    },
-    No(Refusal),
-}
-
-// Inside; or the corner of the new shape that is furthest from the old one, where the old one is nearest to it, and the
-// distance in millimetres rounded up: a corner, with the squared distance; or an edge, with the size of the corner's
-// turn against it and the edge's squared length.
-#[derive(Clone, Copy)]
-pub enum Excess {
-    Inside {
-        floor: u16,
-    },
+pub enum Beyond {
     Corners {
         corner: usize,
         other: usize,
         squared: u64,
         up: u64,
-        floor: u16,
     },
     Edge {
         corner: usize,
@@ -138,113 +39,59 @@ pub enum Excess {
         turn: u64,
         squared: u64,
         up: u64,
-        floor: u16,
     },
-    No(Refusal),
 }
 
-// The name of the nearest shape of a floor: it meets the asked shape, or is apart from it.
+// The name of the nearest shape of a floor, and how near it is to the asked shape: None if it meets that.
 #[derive(Clone, Copy)]
-pub enum Nearest {
-    Meets {
-        name: u16,
-        floor: u16,
-    },
-    Apart {
-        name: u16,
-        distance: Distance,
-        floor: u16,
-    },
-    No(Refusal),
+pub struct Nearest {
+    pub name: u16,
+    pub distance: Option<Distance>,
 }
 
-// The names of the two shapes of a floor with the narrowest gap: both, grown by the cart, meet, or are apart.
+// The names of the two shapes of a floor with the narrowest gap, and how far apart they are, both grown by the cart:
+// None if these meet.
 #[derive(Clone, Copy)]
-pub enum Gap {
-    Meets {
-        name: u16,
-        other: u16,
-        floor: u16,
-    },
-    Apart {
-        name: u16,
-        other: u16,
-        distance: Distance,
-        floor: u16,
-    },
-    No(Refusal),
+pub struct Gap {
+    pub name: u16,
+    pub other: u16,
+    pub distance: Option<Distance>,
 }
 
-// Never, or where a drive first meets an obstacle: the fraction of the way, and the millimetres before it, rounded
-// down.
+// Where a drive first meets an obstacle: the fraction of the way, and the millimetres before it, rounded down.
 #[derive(Clone, Copy)]
-pub enum Contact {
-    Never {
-        floor: u16,
-    },
-    At {
-        numerator: u64,
-        denominator: u64,
-        safe: u64,
-        floor: u16,
-    },
-    No(Refusal),
+pub struct Meeting {
+    pub numerator: u64,
+    pub denominator: u64,
+    pub safe: u64,
 }
 
-// Never, or which shape of a floor a drive meets first: its name, the fraction of the way, and the millimetres before
-// it, rounded down.
+// Which shape of a floor a drive meets first: its name, and where.
 #[derive(Clone, Copy)]
-pub enum Drive {
-    Never {
-        floor: u16,
-    },
-    At {
-        name: u16,
-        numerator: u64,
-        denominator: u64,
-        safe: u64,
-        floor: u16,
-    },
-    No(Refusal),
+pub struct Drive {
+    pub name: u16,
+    pub meeting: Meeting,
 }
 
-// Blocked, or how a cart may pass straight between two obstacles: the direction across, from the right obstacle to the
-// left one, the values in it between which the cart's origin stays, and the width of that in millimetres, rounded down.
+// How a cart may pass straight between two obstacles: the direction across, from the right obstacle to the left one,
+// the values in it between which the cart's origin stays, and the width of that in millimetres, rounded down.
 #[derive(Clone, Copy)]
-pub enum Passage {
-    Blocked {
-        floor: u16,
-    },
-    Free {
-        u: i32,
-        v: i32,
-        low: i64,
-        high: i64,
-        width: u64,
-        floor: u16,
-    },
-    No(Refusal),
-}
-
-// A line from a corner of the first shape to a corner of the second, by their positions.
-#[derive(Clone, Copy)]
-pub struct Line {
-    pub from: usize,
-    pub to: usize,
+pub struct Lane {
+    pub u: i32,
+    pub v: i32,
+    pub low: i64,
+    pub high: i64,
+    pub width: u64,
 }
 
 // The four lines that just touch both shapes: both on the left or on the line; both on the right; the first left and
 // the second right; the reverse.
 #[derive(Clone, Copy)]
-pub enum Tangents {
-    Lines {
-        left: Line,
-        right: Line,
-        crossing: Line,
-        reverse: Line,
-        floor: u16,
-    },
-    No(Refusal),
+pub struct Tangents {
+    pub left: Line,
+    pub right: Line,
+    pub crossing: Line,
+    pub reverse: Line,
 }
 
 // A corner that goes back to the tablet: two doubles that hold whole numbers of millimetres.
@@ -254,22 +101,26 @@ pub struct Sent {
     pub y: f64,
 }
 
-// A reading of the tablet that is refused, and the part of the corner that it is: 1 for x and 2 for y.
-#[derive(Clone, Copy)]
-pub enum Unread {
-    // 17: not finite
-    NotFinite { part: usize },
-    // 18: not a whole number of millimetres
-    NotWhole { part: usize },
-    // 3: out of range
-    Far { part: usize },
-}
-
 // A corner of two readings: the doubles that go back, and the whole numbers that they hold.
 #[derive(Clone, Copy)]
-pub enum Tablet {
-    Corner { sent: Sent, x: i32, y: i32 },
-    No(Unread),
+pub struct Corner {
+    pub sent: Sent,
+    pub x: i32,
+    pub y: i32,
+}
+
+// The two readings of a corner, which a refusal tells as 1 and 2.
+#[derive(Clone, Copy)]
+pub enum Axis {
+    X,
+    Y,
+}
+
+// A reading of the tablet that is refused: which part of the corner it is, and why.
+#[derive(Clone, Copy)]
+pub struct Unread {
+    pub axis: Axis,
+    pub fault: Fault,
 }
 
 // Whether an addition to a log, or a packing of one, made all of its stores, or ran out of those that it was allowed.
@@ -277,12 +128,11 @@ pub enum Tablet {
 pub enum Addition {
     Finished,
     Cut,
-    No(Refusal),
 }
 
-// The current shape at a position of a log: how many corners it has, its name and its floor.
+// The current shape at a position of a log: how many corners it has, and its name.
 #[derive(Clone, Copy)]
-pub enum Entry {
-    Corners { count: usize, name: u16, floor: u16 },
-    No(Refusal),
+pub struct Entry {
+    pub count: usize,
+    pub name: u16,
 }

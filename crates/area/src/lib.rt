@@ -7,7 +7,6 @@ ghost use Rattle.plane.specs.Refusal.{Valid, InRange};
 ghost use Rattle.plane.specs.Turn.{cross};
 ghost use Rattle.area.specs.Area.{twice_area};
 
-use measure::magnitude;
 use polygon::{corners, point};
 
 // Returns twice the area: the cross products of neighbouring corners, once round. No partial sum has more than 60 bits.
@@ -18,12 +17,10 @@ pub fn twice_area(list: &[i32]) -> u64
 {
     let n = corners::count(list);
     let mut sum = cross_at(list, n - 1, 0);
-    let mut i = 0;
-    while i + 1 < n {
+    for i in 0..n - 1 {
         sum += cross_at(list, i, i + 1);
-        i += 1;
     }
-    magnitude::magnitude(sum)
+    sum.unsigned_abs()
 }
 
 // Returns the cross product of two corners.

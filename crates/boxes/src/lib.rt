@@ -32,14 +32,11 @@ pub fn least_box(list: &[i32]) -> Boxed
     requires { Valid list.now × (2 < length (points list.now)) }
     ensures { IsBox (points list.now) result }
 {
-    let n = corners::count(list);
     let mut at = jaws::first(list);
     let mut best = measured(list, 0, at);
-    let mut edge = 1;
-    while edge < n {
+    for edge in 1..corners::count(list) {
         at = jaws::closed(list, edge, at);
         best = smaller(best, measured(list, edge, at));
-        edge += 1;
     }
     best
 }

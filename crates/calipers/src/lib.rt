@@ -4,4 +4,5 @@
 
 pub mod edges;
 pub mod image;
+pub mod round;
 pub mod side;

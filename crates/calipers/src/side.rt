@@ -32,13 +32,7 @@ impl Side {
     pub fn is_up(self) -> bool
         ensures { result ≡ up (next_of self) }
     {
-        if 0 < self.rise {
-            return true;
-        }
-        if self.rise < 0 {
-            return false;
-        }
-        0 < self.run
+        0 < self.rise || self.rise == 0 && 0 < self.run
     }
 }
 
@@ -143,8 +137,8 @@ pub fn facing(s: Side, to: Point) -> Side
         end: s.end,
         x: s.x,
         y: s.y,
-        run: (to.x - s.x) as i64,
-        rise: (to.y - s.y) as i64,
+        run: i64::from(to.x - s.x),
+        rise: i64::from(to.y - s.y),
     }
 }
 
@@ -162,10 +156,7 @@ pub fn are_inside(s: Side, t: Side) -> bool
     requires { (s.at < 2 ^ 63) × (t.at < 2 ^ 63) }
     ensures { result ≡ true → (s.at + 2 < s.end) × (t.at + 2 < t.end) }
 {
-    if s.end <= s.at + 2 {
-        return false;
-    }
-    t.at + 2 < t.end
+    s.at + 2 < s.end && t.at + 2 < t.end
 }
 
 // Whether the next edge of the first side is before that of the other by direction, from level to the right all the way
@@ -205,7 +196,7 @@ fn beyond(s: Side, t: Side) -> i64
     requires { Small (2 ^ 21) (corner_of s) × Small (2 ^ 21) (corner_of t) }
     ensures { result ≡ t.x -ℤ s.x }
 {
-    (t.x - s.x) as i64
+    i64::from(t.x - s.x)
 }
 
 // By how much it is above it.
@@ -213,7 +204,7 @@ fn above(s: Side, t: Side) -> i64
     requires { Small (2 ^ 21) (corner_of s) × Small (2 ^ 21) (corner_of t) }
     ensures { result ≡ t.y -ℤ s.y }
 {
-    (t.y - s.y) as i64
+    i64::from(t.y - s.y)
 }
 
 // The squared distance of the two corners.

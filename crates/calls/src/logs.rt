@@ -23,7 +23,7 @@ pub extern "C" fn cocklesway_log_read(log: &[u8], name: u16, out: &mut [i32]) ->
     ensures { (numbers result ≡ crossed (reply (ask_read log.now name out.old)))
         × (out.new ≡ output (ask_read log.now name out.old)) }
 {
-    reply::of_answer(log_questions::log_read(log, name, out))
+    reply::of(log_questions::log_read(log, name, out))
 }
 
 // Writes the corners of the current shape at a position, and answers how many, its name and its floor.
@@ -32,7 +32,7 @@ pub extern "C" fn cocklesway_log_entry(log: &[u8], k: usize, out: &mut [i32]) ->
     ensures { (numbers result ≡ crossed (reply (ask_entry log.now k out.old)))
         × (out.new ≡ output (ask_entry log.now k out.old)) }
 {
-    reply::of_entry(log_questions::books::log_entry(log, k, out))
+    reply::of(log_questions::books::log_entry(log, k, out))
 }
 
 // Adds the shape to the log with at most as many stores as are allowed. Answers 1 if it finished, 0 if it was cut.
@@ -75,7 +75,7 @@ pub extern "C" fn cocklesway_log_nearest(log: &[u8], list: &[i32], floor: u32, b
     if limits::exceeds_floor(floor) {
         return floors::barred(list);
     }
-    reply::of_nearest(log_questions::books::log_nearest(log, list, floor as u16, but))
+    reply::of(log_questions::books::log_nearest(log, list, floor as u16, but))
 }
 
 // Answers the names of the two current shapes on the floor with the narrowest gap, both grown by the cart, and what
@@ -88,7 +88,7 @@ pub extern "C" fn cocklesway_log_gap(log: &[u8], cart: &[i32], floor: u32) -> Re
     if limits::exceeds_floor(floor) {
         return floors::barred(cart);
     }
-    reply::of_gap(log_questions::books::log_gap(log, cart, floor as u16))
+    reply::of(log_questions::books::log_gap(log, cart, floor as u16))
 }
 
 // Answers the name of the current shape on the floor that a cart meets first that drives straight from (x, y) to
@@ -110,5 +110,5 @@ pub extern "C" fn cocklesway_log_contact(
     if limits::exceeds_floor(floor) {
         return floors::barred(cart);
     }
-    reply::of_drive(drive_questions::log_contact(log, cart, floor as u16, x, y, u, v))
+    reply::of(drive_questions::log_contact(log, cart, floor as u16, x, y, u, v))
 }

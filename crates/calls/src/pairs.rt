@@ -28,7 +28,7 @@ pub extern "C" fn cocklesway_sum(a: &[i32], f: u32, b: &[i32], g: u32, out: &mut
     if floors::exceeds(f, g) {
         return floors::barred_pair(a, b);
     }
-    reply::of_answer(pair_questions::sum(a, f as u16, b, g as u16, out))
+    reply::of(pair_questions::sum(a, f as u16, b, g as u16, out))
 }
 
 // Writes the merge, and answers how many corners it has.
@@ -42,7 +42,7 @@ pub extern "C" fn cocklesway_merge(a: &[i32], f: u32, b: &[i32], g: u32, out: &m
     if floors::exceeds(f, g) {
         return floors::barred_pair(a, b);
     }
-    reply::of_answer(pair_questions::merge(a, f as u16, b, g as u16, out))
+    reply::of(pair_questions::merge(a, f as u16, b, g as u16, out))
 }
 
 // Writes the obstacle grown by the cart's outline, and answers how many corners it has.
@@ -62,7 +62,7 @@ pub extern "C" fn cocklesway_grow(
     if floors::exceeds(f, g) {
         return floors::barred_pair(obstacle, cart);
     }
-    reply::of_answer(pair_questions::grow(obstacle, f as u16, cart, g as u16, out))
+    reply::of(pair_questions::grow(obstacle, f as u16, cart, g as u16, out))
 }
 
 // Answers 0 for apart, 1 for touching, 2 for overlapping.
@@ -73,7 +73,7 @@ pub extern "C" fn cocklesway_relation(a: &[i32], f: u32, b: &[i32], g: u32) -> R
     if floors::exceeds(f, g) {
         return floors::barred_pair(a, b);
     }
-    reply::of_relation(pair_questions::relation(a, f as u16, b, g as u16))
+    reply::of(pair_questions::relation(a, f as u16, b, g as u16))
 }
 
 // Answers 1 if the first shape is inside the second, else 0.
@@ -84,7 +84,7 @@ pub extern "C" fn cocklesway_inside(a: &[i32], f: u32, b: &[i32], g: u32) -> Rep
     if floors::exceeds(f, g) {
         return floors::barred_pair(a, b);
     }
-    reply::of_inside(pair_questions::inside(a, f as u16, b, g as u16))
+    reply::of(pair_questions::inside(a, f as u16, b, g as u16))
 }
 
 // Answers 1 if the direction (u, v) is accepted as the reason that the shapes are apart, else 0.
@@ -96,7 +96,7 @@ pub extern "C" fn cocklesway_offer(a: &[i32], f: u32, b: &[i32], g: u32, u: i32,
     if floors::exceeds(f, g) {
         return floors::barred_pair(a, b);
     }
-    reply::of_offer(separators::offer(a, f as u16, b, g as u16, u, v))
+    reply::of(separators::offer(a, f as u16, b, g as u16, u, v))
 }
 
 // Answers 1 and a direction that is accepted, or 0 if there is none.
@@ -107,7 +107,7 @@ pub extern "C" fn cocklesway_find(a: &[i32], f: u32, b: &[i32], g: u32) -> Reply
     if floors::exceeds(f, g) {
         return floors::barred_pair(a, b);
     }
-    reply::of_separator(separators::find(a, f as u16, b, g as u16))
+    reply::of(separators::find(a, f as u16, b, g as u16))
 }
 
 // Answers where two shapes are nearest, and how near; 0 if they are not apart.
@@ -118,7 +118,7 @@ pub extern "C" fn cocklesway_clearance(a: &[i32], f: u32, b: &[i32], g: u32) -> 
     if floors::exceeds(f, g) {
         return floors::barred_pair(a, b);
     }
-    reply::of_clearance(pair_questions::clearance(a, f as u16, b, g as u16))
+    reply::of(pair_questions::clearance(a, f as u16, b, g as u16))
 }
 
 // Answers the greatest squared distance of a point of one shape and a point of the other, and two corners that have it.
@@ -129,7 +129,7 @@ pub extern "C" fn cocklesway_greatest(a: &[i32], f: u32, b: &[i32], g: u32) -> R
     if floors::exceeds(f, g) {
         return floors::barred_pair(a, b);
     }
-    reply::of_greatest(pair_questions::reaches::greatest(a, f as u16, b, g as u16))
+    reply::of(pair_questions::reaches::greatest(a, f as u16, b, g as u16))
 }
 
 // Answers how far the new shape a reaches beyond the old shape b.
@@ -140,7 +140,7 @@ pub extern "C" fn cocklesway_excess(a: &[i32], f: u32, b: &[i32], g: u32) -> Rep
     if floors::exceeds(f, g) {
         return floors::barred_pair(a, b);
     }
-    reply::of_excess(pair_questions::changes::excess(a, f as u16, b, g as u16))
+    reply::of(pair_questions::changes::excess(a, f as u16, b, g as u16))
 }
 
 // Answers the four lines that just touch both shapes.
@@ -151,7 +151,7 @@ pub extern "C" fn cocklesway_tangents(a: &[i32], f: u32, b: &[i32], g: u32) -> R
     if floors::exceeds(f, g) {
         return floors::barred_pair(a, b);
     }
-    reply::of_tangents(pair_questions::tangents(a, f as u16, b, g as u16))
+    reply::of(pair_questions::tangents(a, f as u16, b, g as u16))
 }
 
 // Answers where a cart that drives straight from (x, y) to (u, v) first meets the obstacle; 0 if it never does.
@@ -172,5 +172,5 @@ pub extern "C" fn cocklesway_contact(
     if floors::exceeds(f, g) {
         return floors::barred_pair(obstacle, cart);
     }
-    reply::of_contact(drive_questions::contact(obstacle, f as u16, cart, g as u16, x, y, u, v))
+    reply::of(drive_questions::contact(obstacle, f as u16, cart, g as u16, x, y, u, v))
 }

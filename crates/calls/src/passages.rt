@@ -25,5 +25,5 @@ pub extern "C" fn cocklesway_passage(
     if floors::exceeds_three(f, g, h) {
         return floors::barred_three(left, right, cart);
     }
-    reply::of_passage(pair_questions::passage(left, f as u16, right, g as u16, cart, h as u16))
+    reply::of(pair_questions::passage(left, f as u16, right, g as u16, cart, h as u16))
 }

@@ -21,7 +21,7 @@ pub extern "C" fn cocklesway_judge(list: &[i32], floor: u32) -> Reply
     if limits::exceeds_floor(floor) {
         return floors::barred(list);
     }
-    reply::of_answer(shape_questions::judge(list, floor as u16))
+    reply::of(shape_questions::judge(list, floor as u16))
 }
 
 // Answers the first and the last of the furthest corners in the direction (u, v), and their value.
@@ -32,7 +32,7 @@ pub extern "C" fn cocklesway_furthest(list: &[i32], floor: u32, u: i32, v: i32) 
     if limits::exceeds_floor(floor) {
         return floors::barred(list);
     }
-    reply::of_furthest(shape_questions::furthest(list, floor as u16, u, v))
+    reply::of(shape_questions::furthest(list, floor as u16, u, v))
 }
 
 // Writes the mirror image, and answers how many corners it has.
@@ -44,7 +44,7 @@ pub extern "C" fn cocklesway_mirror(list: &[i32], floor: u32, out: &mut [i32]) -
     if limits::exceeds_floor(floor) {
         return floors::barred(list);
     }
-    reply::of_answer(shape_questions::mirror(list, floor as u16, out))
+    reply::of(shape_questions::mirror(list, floor as u16, out))
 }
 
 // Writes the shape of many points, and answers how many corners it has.
@@ -56,7 +56,7 @@ pub extern "C" fn cocklesway_sweep(list: &[i32], floor: u32, out: &mut [i32]) ->
     if limits::exceeds_floor(floor) {
         return floors::barred_points(list);
     }
-    reply::of_answer(shape_questions::sweep(list, floor as u16, out))
+    reply::of(shape_questions::sweep(list, floor as u16, out))
 }
 
 // Writes the standard list with the corners of a ring as people have it, and answers how many they are.
@@ -68,7 +68,7 @@ pub extern "C" fn cocklesway_ring(list: &[i32], floor: u32, out: &mut [i32]) -> 
     if limits::exceeds_floor(floor) {
         return floors::barred_ring(list);
     }
-    reply::of_answer(shape_questions::rings::ring(list, floor as u16, out))
+    reply::of(shape_questions::rings::ring(list, floor as u16, out))
 }
 
 // Answers the greatest squared distance of two corners, and their positions.
@@ -79,7 +79,7 @@ pub extern "C" fn cocklesway_length(list: &[i32], floor: u32) -> Reply
     if limits::exceeds_floor(floor) {
         return floors::barred(list);
     }
-    reply::of_length(shape_questions::length(list, floor as u16))
+    reply::of(shape_questions::length(list, floor as u16))
 }
 
 // Answers twice the area.
@@ -90,7 +90,7 @@ pub extern "C" fn cocklesway_area(list: &[i32], floor: u32) -> Reply
     if limits::exceeds_floor(floor) {
         return floors::barred(list);
     }
-    reply::of_area(shape_questions::area(list, floor as u16))
+    reply::of(shape_questions::area(list, floor as u16))
 }
 
 // Answers edge, corner, turn, squared edge and the width rounded down.
@@ -101,7 +101,7 @@ pub extern "C" fn cocklesway_width(list: &[i32], floor: u32) -> Reply
     if limits::exceeds_floor(floor) {
         return floors::barred(list);
     }
-    reply::of_width(shape_questions::width(list, floor as u16))
+    reply::of(shape_questions::width(list, floor as u16))
 }
 
 // Answers the edge of the least box, its height, the side along it and the squared edge.
@@ -112,5 +112,5 @@ pub extern "C" fn cocklesway_box(list: &[i32], floor: u32) -> Reply
     if limits::exceeds_floor(floor) {
         return floors::barred(list);
     }
-    reply::of_box(shape_questions::boxing::least_box(list, floor as u16))
+    reply::of(shape_questions::boxing::least_box(list, floor as u16))
 }

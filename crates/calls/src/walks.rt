@@ -20,7 +20,7 @@ pub extern "C" fn cocklesway_begin(a: &[i32], f: u32, b: &[i32], g: u32) -> Repl
     if floors::exceeds(f, g) {
         return floors::barred_pair(a, b);
     }
-    reply::of_begun(walk::begin(a, f as u16, b, g as u16))
+    reply::of(walk::begin(a, f as u16, b, g as u16))
 }
 
 // Writes the part of a sum after the walk with these edges passed, over or not: at most k corners. Answers how many,
@@ -50,5 +50,5 @@ pub extern "C" fn cocklesway_part(
         second,
         over,
     };
-    reply::of_part(walk.part(a, f as u16, b, g as u16, k, out))
+    reply::of(walk.part(a, f as u16, b, g as u16, k, out))
 }

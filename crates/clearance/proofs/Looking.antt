@@ -3,7 +3,7 @@
 --                                      at hand
 --     looking-start, looking-more      its moves; `looking-at`: the walk is at a place of the lists
 --     looking-corner, looking-edge     the corner or the edge at hand passes
---     looking-end                      all are passed, and the corner at which the walk began is left
+--     looking-end                      all are passed, and only the corner at which the walk began is left
 use mathlib.Core.Path.{◌≡◌, refl, sym, ◌∙◌, ap, ap₂, subst}
 use mathlib.Core.Bool.{Bool, true, false, and-eq-true_iff}
 use mathlib.Core.Logic.{◌⊎◌, inl, inr}
@@ -137,12 +137,11 @@ module _ {a b : List ℤ} {from : ℕ} where
           no_edge = edges-fail;
         }
 
-        pub looking-end : next-walk.over ≡ true → {first : Point} → first ≡ corner D from → Nowhere D from first
-        looking-end o q =
+        pub looking-end : next-walk.over ≡ true → Nowhere D from
+        looking-end o =
             let all : length D ≤ suc p.count =
             over-end a b p.start (suc p.count) below (ap (λ (v : Walk). v.over) (sym after_is) ∙ o) in
             record {
               no-corner = λ k g h. corners-fail k g (omega arith);
               no_edge = λ k g h. edges-fail k g (omega arith);
-              first-is = q;
             }

@@ -6,8 +6,9 @@
 --     is_end f i               i is one of the two
 --     is_along n A B i j       the step from corner j of B to corner i of A is along n
 --     is_foot g A B c e        corner c of A falls strictly inside edge e of B, whose other end is in the face g
+--     AtEnds P f g             P holds at the four pairs of ends
 --     picked_of, tried         of the four pairs of ends the first that passes
-use Rattle.std.specs.Prelude.{◌≡◌, Bool, cond, ◌&&◌, ◌||◌, ◌⊎◌, List, ℕ, ◌≤◌, ◌<◌, eqb, ltb, ℤ, pos, length}
+use Rattle.std.specs.Prelude.{◌≡◌, Bool, cond, ◌&&◌, ◌||◌, ◌⊎◌, Option, Some, None, List, ℕ, ◌≤◌, ◌<◌, eqb, ltb, ℤ, pos, length}
 use Rattle.std.specs.Int.Signed.{le_z}
 use Rattle.plane.specs.Point.{Point, points, corner, ◌⊖◌}
 use Rattle.plane.specs.Turn.{cross}
@@ -16,8 +17,6 @@ use Rattle.plane.specs.Refusal.{InRange}
 use Rattle.plane.specs.Clearance.{falls_on}
 use Rattle.clearance.specs.Facing.{Lowest}
 use Rattle.clearance.specs.declared.face.Face.{Face}
-use Rattle.clearance.specs.declared.reach.Spot.{Spot}
-use Rattle.clearance.specs.declared.reach.Spot.TheVariants.{At, Nowhere}
 
 pub record IsFace (n : Point) (ps : List Point) (f : Face) : Type 0 where
   pub first-lowest : Lowest n ps f.first
@@ -44,12 +43,15 @@ is_along n A B i j =
 unfoldable pub is_foot : Face → List Point → List Point → ℕ → ℕ → Bool
 is_foot g A B c e = is_end g (next (length B) e) && falls_on B e (corner A c)
 
--- in the ticket's order: by the position in the one, then in the other
-abbrev pub picked_of : Face → Face → Bool → Bool → Bool → Bool → Spot
-picked_of f g p q r s =
-    cond p (At f.first g.first) (cond q (At f.first g.last)
-    (cond r (At f.last g.first) (cond s (At f.last g.last) Nowhere)))
+abbrev pub AtEnds : (ℕ → ℕ → Type 0) → Face → Face → Type 0
+AtEnds P f g = P f.first g.first × P f.first g.last × P f.last g.first × P f.last g.last
 
-abbrev pub tried : (ℕ → ℕ → Bool) → Face → Face → Spot
+-- in the ticket's order: by the position in the one, then in the other
+abbrev pub picked_of : Face → Face → Bool → Bool → Bool → Bool → Option (ℕ × ℕ)
+picked_of f g p q r s =
+    cond p (Some (f.first, g.first)) (cond q (Some (f.first, g.last))
+    (cond r (Some (f.last, g.first)) (cond s (Some (f.last, g.last)) None)))
+
+abbrev pub tried : (ℕ → ℕ → Bool) → Face → Face → Option (ℕ × ℕ)
 tried test f g =
     picked_of f g (test f.first g.first) (test f.first g.last) (test f.last g.first) (test f.last g.last)

@@ -31,10 +31,7 @@ pub fn near(list: &[i32], n: Point, i: usize) -> Face
     let own = value_at(list, i, n);
     let one = value_at(list, back, n);
     let other = value_at(list, on, n);
-    if one < own {
-        return lowest(list, n);
-    }
-    if other < own {
+    if one < own || other < own {
         return lowest(list, n);
     }
     if other <= own {
@@ -50,10 +47,10 @@ pub fn near(list: &[i32], n: Point, i: usize) -> Face
 fn ordered(i: usize, j: usize) -> Face
     ensures { result ≡ ordered_ends i j }
 {
-    if j < i {
-        return Face { first: j, last: i };
+    Face {
+        first: i.min(j),
+        last: i.max(j),
     }
-    Face { first: i, last: j }
 }
 
 // The value of corner i in a direction.
@@ -93,19 +90,10 @@ pub fn lowest(list: &[i32], n: Point) -> Face
     ensures { IsFace (at n) (points list.now) result }
 {
     let face = direction::face_towards(list, against(n));
-    if face.last < face.first {
-        return Face {
-            first: face.last,
-            last: face.first,
-        };
-    }
-    Face {
-        first: face.first,
-        last: face.last,
-    }
+    ordered(face.first, face.last)
 }
 
-// The opposite direction.
+// The opposite direction. `point::opposite` is for corners, whose parts are smaller.
 pub fn against(n: Point) -> Point
     requires { Small (2 ^ 22) (at n) }
     ensures { at result ≡ opposite (at n) }

@@ -26,24 +26,17 @@ use polygon::point::Point;
 use separation::answer::Relation;
 use separation::around;
 
-// Shapes that have a point in common; or shapes that are apart, with the place where they are nearest.
-#[derive(Clone, Copy)]
-pub enum Spacing {
-    Meets,
-    Apart(Distance),
-}
-
-// Whether two shapes are apart, and then where they are nearest: one walk round their differences finds both.
-pub fn between(a: &[i32], b: &[i32]) -> Spacing
+// Where two shapes are nearest, or None where they have a point in common: one walk round their differences tells
+// whether they are apart, and where they are nearest.
+pub fn between(a: &[i32], b: &[i32]) -> Option<Distance>
     requires { Valid a.now × Valid b.now }
     ensures { Spaced (points a.now) (points b.now) result }
 {
     let top = peak::top(b);
     let sides = around::pass(a, b, top);
     match around::related(a, b, top, sides) {
-        Relation::Apart => Spacing::Apart(found(a, b, top, sides.first, sides.second)),
-        Relation::Touching => Spacing::Meets,
-        Relation::Overlapping => Spacing::Meets,
+        Relation::Apart => Some(found(a, b, top, sides.first, sides.second)),
+        Relation::Touching | Relation::Overlapping => None,
     }
 }
 

@@ -1,11 +1,10 @@
 // Inner functions: how far apart the corners of a candidate are.
-ghost use Rattle.std.specs.Prelude.{◌≡◌, ◌^◌, ◌<◌, pos, nat_abs, length, ◌<ℤ◌};
-ghost use Rattle.integer.specs.Bound.{Within};
+ghost use Rattle.std.specs.Prelude.{◌≡◌, ◌^◌, ◌<◌, pos, length, ◌<ℤ◌};
 ghost use Rattle.plane.specs.Point.{points, corner};
 ghost use Rattle.plane.specs.Refusal.{InRange};
 ghost use Rattle.plane.specs.Measure.{squared, edge_squared};
 ghost use Rattle.plane.specs.Clearance.{corners, turn_on, numbers_of};
-ghost use Rattle.clearance.specs.Answer.{candidate_of, values_of, Measurable, HasSize};
+ghost use Rattle.clearance.specs.Answer.{candidate_of, values_of, ratio_of, Measurable, HasSize};
 
 use crate::reach::Pair;
 use measure::magnitude;
@@ -35,6 +34,30 @@ pub enum Distance {
         squared: u64,
         rounded: u64,
     },
+}
+
+// A distance as the root of turn·turn/squared.
+#[derive(Clone, Copy)]
+pub struct Ratio {
+    pub turn: u64,
+    pub squared: u64,
+}
+
+impl Distance {
+    // Two corners at the squared distance d are at d·d/d.
+    pub fn ratio(self) -> Ratio
+        ensures { result ≡ ratio_of self }
+    {
+        match self {
+            Distance::Corners { squared, .. } => Ratio {
+                turn: squared,
+                squared,
+            },
+            Distance::OnSecond { turn, squared, .. } | Distance::OnFirst { turn, squared, .. } => {
+                Ratio { turn, squared }
+            }
+        }
+    }
 }
 
 // The height of a corner over an edge: the size of its turn, the squared length of the edge, and the root rounded down.
@@ -105,22 +128,11 @@ fn across(a: &[i32], c: usize, b: &[i32], e: usize) -> Height
     let from = corners::corner_at(b, e);
     let to = corners::corner_at(b, rules::next(corners::count(b), e));
     let edge = point::step(from, to);
-    let turn = size(point::cross(edge, point::step(from, corners::corner_at(a, c))));
+    let turn = point::cross(edge, point::step(from, corners::corner_at(a, c))).unsigned_abs();
     let squared = magnitude::magnitude(point::squared(from, to));
     Height {
         turn,
         squared,
         rounded: wide::root_of_fraction(turn, squared),
     }
-}
-
-// A number without its sign.
-fn size(z: i64) -> u64
-    requires { Within (2 ^ 62) z }
-    ensures { result ≡ nat_abs z }
-{
-    if z < 0 {
-        return magnitude::magnitude(0 - z);
-    }
-    magnitude::magnitude(z)
 }

@@ -1,12 +1,12 @@
 // Inner functions: of the corners in two faces the first that are reached: two corners along the direction, or a corner
 // and an edge that it falls on.
-ghost use Rattle.std.specs.Prelude.{◌≡◌, ◌^◌, ◌<◌, length};
+ghost use Rattle.std.specs.Prelude.{Bool, ℕ, ◌≡◌, ◌^◌, ◌<◌, length};
 ghost use Rattle.plane.specs.Point.{points};
 ghost use Rattle.plane.specs.Refusal.{InRange, Valid};
 ghost use Rattle.plane.specs.Clearance.{nearest, falls as clearance_falls};
 ghost use Rattle.polygon.specs.Point.{at, Small};
 ghost use Rattle.clearance.specs.Facing.{Facing};
-ghost use Rattle.clearance.specs.Faces.{Ends, is_end, is_along, is_foot, picked_of, tried};
+ghost use Rattle.clearance.specs.Faces.{AtEnds, is_end, is_along, is_foot, tried};
 ghost use Rattle.clearance.specs.Answer.{candidate_of};
 
 use crate::face;
@@ -22,13 +22,6 @@ pub enum Pair {
     OnFirst { corner: usize, edge: usize },
 }
 
-// Two positions, if any.
-#[derive(Clone, Copy)]
-pub enum Spot {
-    At { one: usize, other: usize },
-    Nowhere,
-}
-
 // The first of all candidates that are reached in a direction: two corners first, then a corner of the first shape on
 // an edge of the second, then the reverse; each by the smallest positions. They are thought to be near corner i of the
 // first and corner j of the second.
@@ -41,83 +34,42 @@ pub fn first_reached(a: &[i32], b: &[i32], n: Point, i: usize, j: usize) -> Pair
 {
     let f = face::near(a, n, i);
     let g = face::near(b, face::against(n), j);
-    if let Spot::At { one, other } = first_along(a, f, b, g, n) {
-        return Pair::Corners {
-            first: one,
-            second: other,
-        };
+    if let Some((first, second)) = first_pair(f, g, |i, k| along(a, i, b, k, n)) {
+        return Pair::Corners { first, second };
     }
-    if let Spot::At { one, other } = first_foot(a, f, b, g) {
-        return Pair::OnSecond {
-            corner: one,
-            edge: other,
-        };
+    if let Some((corner, edge)) = first_pair(f, g, |c, e| foot(a, c, b, e, g)) {
+        return Pair::OnSecond { corner, edge };
     }
-    match first_foot(b, g, a, f) {
-        Spot::At { one, other } => Pair::OnFirst {
-            corner: one,
-            edge: other,
-        },
-        Spot::Nowhere => Pair::Corners {
+    match first_pair(g, f, |c, e| foot(b, c, a, e, f)) {
+        Some((corner, edge)) => Pair::OnFirst { corner, edge },
+        None => Pair::Corners {
             first: 0,
             second: 0,
         },
     }
 }
 
-// The first two corners of two faces that lie along a direction.
-fn first_along(a: &[i32], f: Face, b: &[i32], g: Face, n: Point) -> Spot
-    requires { Ends a.now f × Ends b.now g × Small (2 ^ 22) (at n) }
-    ensures { result ≡ tried (is_along (at n) (points a.now) (points b.now)) f g }
+// The first of the four pairs of ends of two faces that passes a test. Each is tested by itself, since an iterator's
+// `find` would ask for a test of any two positions.
+fn first_pair<T: Fn(usize, usize) -> bool>(f: Face, g: Face, passes: T) -> Option<(usize, usize)>
+    requires { AtEnds (λ i j. T.pre passes i j) f g }
+    ensures { (test : ℕ → ℕ → Bool)
+        → AtEnds (λ i j. (b : Bool) → T.post passes i j b → b ≡ test i j) f g
+        → result ≡ tried test f g }
 {
-    let first = along(a, f.first, b, g.first, n);
-    let second = along(a, f.first, b, g.last, n);
-    let third = along(a, f.last, b, g.first, n);
-    let fourth = along(a, f.last, b, g.last, n);
-    picked(f, g, first, second, third, fourth)
-}
-
-// The first corner of one face that falls on an edge of the other, and the first such edge.
-fn first_foot(a: &[i32], f: Face, b: &[i32], g: Face) -> Spot
-    requires { Ends a.now f × Ends b.now g }
-    ensures { result ≡ tried (is_foot g (points a.now) (points b.now)) f g }
-{
-    let first = foot(a, f.first, b, g.first, g);
-    let second = foot(a, f.first, b, g.last, g);
-    let third = foot(a, f.last, b, g.first, g);
-    let fourth = foot(a, f.last, b, g.last, g);
-    picked(f, g, first, second, third, fourth)
-}
-
-// The first of four pairs of ends that passed.
-fn picked(f: Face, g: Face, first: bool, second: bool, third: bool, fourth: bool) -> Spot
-    ensures { result ≡ picked_of f g first second third fourth }
-{
-    if first {
-        return Spot::At {
-            one: f.first,
-            other: g.first,
-        };
+    if passes(f.first, g.first) {
+        return Some((f.first, g.first));
     }
-    if second {
-        return Spot::At {
-            one: f.first,
-            other: g.last,
-        };
+    if passes(f.first, g.last) {
+        return Some((f.first, g.last));
     }
-    if third {
-        return Spot::At {
-            one: f.last,
-            other: g.first,
-        };
+    if passes(f.last, g.first) {
+        return Some((f.last, g.first));
     }
-    if fourth {
-        return Spot::At {
-            one: f.last,
-            other: g.last,
-        };
+    if passes(f.last, g.last) {
+        return Some((f.last, g.last));
     }
-    Spot::Nowhere
+    None
 }
 
 // Whether the step from corner j of b to corner i of a is along a direction: neither to its left nor to its right.

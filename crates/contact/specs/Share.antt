@@ -1,5 +1,6 @@
 -- The code's fractions, places and answers, and what it looks at.
 --     fraction s            two words as an exact fraction
+--     share_of m            the fraction of a meeting
 --     Places t u            the two places are within the range of coordinates
 --     meeting_numbers m      the numbers of what the code returns
 --     last_wall t u G i      the last entry of the box and i edges; of a shape of three corners or more, of i edges alone
@@ -9,6 +10,7 @@
 --     box_corner h l d       the corner furthest in direction d of the box with these greatest coordinates, h of points and l of opposites
 --     is_past h l d p q      p and q are further in direction d than that; is_beside h l d p q: or both in the opposite direction
 use Rattle.std.specs.Prelude.{◌≡◌, Bool, false, cond, ◌&&◌, ◌||◌, List, [], ◌∷◌, ℕ, suc, ◌+◌, ltb, ℤ, pos, neg_ℤ, ◌-ℤ◌, ◌*ℤ◌, length}
+use Rattle.std.specs.Prelude.{Option}
 use Rattle.std.specs.Int.Signed.{lt_z}
 use Rattle.plane.specs.Limits.{max_coordinate}
 use Rattle.plane.specs.Point.{Point, point, opposite}
@@ -19,18 +21,22 @@ use Rattle.polygon.specs.Point.{Small}
 use Rattle.motion.specs.Contact.{OnWay, entry, last_entry, lowest, contact}
 use Rattle.contact.specs.declared.share.Share.{Share}
 use Rattle.contact.specs.declared.walls.BothWays.{BothWays}
-use Rattle.contact.specs.declared.drive.Meeting.{Meeting}
+use Rattle.answers.specs.declared.Meeting.{Meeting}
+use Rattle.answers.specs.Answer.{found_values, meeting_values}
 
 abbrev pub fraction : Share → Fraction
 fraction s = over (pos s.numerator) (pos s.denominator)
+
+-- the fraction at which something is met
+abbrev pub share_of : Meeting → Share
+share_of m = record { numerator = m.numerator; denominator = m.denominator }
 
 pub record Places (t u : Point) : Type 0 where
   pub from-near : Small max_coordinate t
   pub to-near : Small max_coordinate u
 
-abbrev pub meeting_numbers : Meeting → List ℤ
-meeting_numbers Meeting.Never = pos 0 ∷ []
-meeting_numbers (Meeting.At n d safe) = pos 1 ∷ pos n ∷ pos d ∷ pos safe ∷ []
+abbrev pub meeting_numbers : Option Meeting → List ℤ
+meeting_numbers m = found_values meeting_values m
 
 abbrev pub last_wall : Point → Point → List Point → ℕ → Fraction
 last_wall t u G i = cond (ltb (length G) 3) (last_entry (entry t u G) (4 + i)) (last_entry (λ j. entry t u G (suc (suc (suc (suc j))))) i)

@@ -21,22 +21,14 @@ pub fn is_beyond(obstacle: &[i32], cart: &[i32], t: Point, u: Point) -> bool
         (grown (points obstacle.now) (points cart.now)) ≡ true }
 {
     let span = grown_extent(obstacle, cart);
-    if is_beside(span, Point { x: 1, y: 0 }, t, u) {
-        return true;
-    }
-    if is_beside(span, Point { x: 0, y: 1 }, t, u) {
-        return true;
-    }
     let along = point::step(t, u);
-    is_beside(
-        span,
-        Point {
-            x: -along.y,
-            y: along.x,
-        },
-        t,
-        u,
-    )
+    let across = Point {
+        x: -along.y,
+        y: along.x,
+    };
+    is_beside(span, Point { x: 1, y: 0 }, t, u)
+        || is_beside(span, Point { x: 0, y: 1 }, t, u)
+        || is_beside(span, across, t, u)
 }
 
 // How far an obstacle grown by a cart reaches: supports add, and those of the mirrored cart are exchanged.
@@ -59,10 +51,7 @@ fn is_beside(e: Extent, d: Point, t: Point, u: Point) -> bool
         × Places (at t) (at u) }
     ensures { result ≡ is_beside (at e.high) (at e.low) (at d) (at t) (at u) }
 {
-    if is_past(e, d, t, u) {
-        return true;
-    }
-    is_past(e, point::opposite(d), t, u)
+    is_past(e, d, t, u) || is_past(e, point::opposite(d), t, u)
 }
 
 // Whether two places are further in a direction than all of a box.
@@ -73,10 +62,7 @@ fn is_past(e: Extent, d: Point, t: Point, u: Point) -> bool
     ensures { result ≡ is_past (at e.high) (at e.low) (at d) (at t) (at u) }
 {
     let far = point::dot(d, far_corner(e, d));
-    if far < point::dot(d, t) {
-        return far < point::dot(d, u);
-    }
-    false
+    far < point::dot(d, t) && far < point::dot(d, u)
 }
 
 // The corner of a box that is furthest in a direction.

@@ -6,37 +6,27 @@ ghost use Rattle.polygon.specs.Point.{at};
 ghost use Rattle.motion.specs.Contact.{contact_numbers};
 ghost use Rattle.contact.specs.Share.{Places, meeting_numbers};
 
-use crate::{share, walls};
+use crate::walls;
+use answers::Meeting;
 use measure::magnitude;
 use polygon::point;
 use polygon::point::Point;
 
-// Never, or the fraction of the way in lowest terms and the millimetres up to there, rounded down.
-#[derive(Clone, Copy)]
-pub enum Meeting {
-    Never,
-    At {
-        numerator: u64,
-        denominator: u64,
-        safe: u64,
-    },
-}
-
 // Where the way from t to u first meets a shape: at the last entry through its walls, unless that comes after the way
-// leaves one, which is where the way back enters it.
-pub fn first_of(list: &[i32], t: Point, u: Point) -> Meeting
+// leaves one, which is where the way back enters it. None if it never meets it.
+pub fn first_of(list: &[i32], t: Point, u: Point) -> Option<Meeting>
     requires { Valid list.now × Places (at t) (at u) }
     ensures { meeting_numbers result ≡ contact_numbers (at t) (at u) (points list.now) }
 {
     let way = walls::arrivals(list, t, u);
-    if share::exceed(way.there, way.back) {
-        return Meeting::Never;
+    if way.there.exceeds(way.back) {
+        return None;
     }
-    let c = share::lowest(way.there);
+    let c = way.there.lowest();
     let length = magnitude::magnitude(point::squared(t, u));
-    Meeting::At {
+    Some(Meeting {
         numerator: c.numerator,
         denominator: c.denominator,
-        safe: share::millimetres(c, length),
-    }
+        safe: c.millimetres(length),
+    })
 }

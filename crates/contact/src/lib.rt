@@ -14,21 +14,21 @@ ghost use Rattle.growth.specs.Grown.{grown};
 ghost use Rattle.motion.specs.Contact.{contact_numbers};
 ghost use Rattle.contact.specs.Share.{Places, meeting_numbers};
 
-use drive::Meeting;
+use answers::Meeting;
 use polygon::point::Point;
 use polygon::{limits, peak};
 use separation::differences;
 
 // Where a cart that drives from t to u first meets an obstacle, both shapes, also the obstacle grown by the cart: where
 // its place meets the grown obstacle. That is not written if the way keeps to one side of its box.
-pub fn first(obstacle: &[i32], cart: &[i32], t: Point, u: Point) -> Meeting
+pub fn first(obstacle: &[i32], cart: &[i32], t: Point, u: Point) -> Option<Meeting>
     requires { Valid obstacle.now × Valid cart.now
         × Valid (numbers (grown (points obstacle.now) (points cart.now))) × Places (at t) (at u) }
     ensures { meeting_numbers result ≡ contact_numbers (at t) (at u)
         (grown (points obstacle.now) (points cart.now)) }
 {
     if beyond::is_beyond(obstacle, cart, t, u) {
-        return Meeting::Never;
+        return None;
     }
     let top = peak::top(cart);
     let mut grown = [0i32; limits::SHAPE_NUMBERS];

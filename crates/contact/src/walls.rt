@@ -10,7 +10,6 @@ ghost use Rattle.polygon.specs.Point.{at, Small};
 ghost use Rattle.motion.specs.Contact.{edge_normal, past as contact_past, entering, entry, last_entry};
 ghost use Rattle.contact.specs.Share.{fraction, Places, last_wall, Met};
 
-use crate::share;
 use crate::share::Share;
 use polygon::point::Point;
 use polygon::{corners, point, rules};
@@ -29,28 +28,19 @@ pub fn arrivals(list: &[i32], t: Point, u: Point) -> BothWays
     requires { Valid list.now × Places (at t) (at u) }
     ensures { Met (at t) (at u) (points list.now) result }
 {
-    let n = corners::count(list);
     let mut there = start(list, t, u);
     let mut back = start(list, u, t);
-    let mut i = 0;
-    while i < n {
+    for i in 0..corners::count(list) {
         let a = edge_past(list, i, t);
         let b = edge_past(list, i, u);
         if are_past(a, b) {
             return BothWays {
-                there: Share {
-                    numerator: 1,
-                    denominator: 1,
-                },
-                back: Share {
-                    numerator: 1,
-                    denominator: 1,
-                },
+                there: Share::END,
+                back: Share::END,
             };
         }
-        there = share::later(there, share::entering(a, b));
-        back = share::later(back, share::entering(b, a));
-        i += 1;
+        there = there.later(Share::entering(a, b));
+        back = back.later(Share::entering(b, a));
     }
     BothWays { there, back }
 }
@@ -68,12 +58,10 @@ fn start(list: &[i32], t: Point, u: Point) -> Share
     ensures { fraction result ≡ last_wall (at t) (at u) (points list.now) 0 }
 {
     if 3 <= corners::count(list) {
-        return Share {
-            numerator: 0,
-            denominator: 1,
-        };
+        Share::START
+    } else {
+        box_arrival(list, t, u)
     }
-    box_arrival(list, t, u)
 }
 
 // The last entry through the four sides of the box about a shape.
@@ -82,18 +70,11 @@ fn box_arrival(list: &[i32], t: Point, u: Point) -> Share
     requires { Valid list.now × Places (at t) (at u) }
     ensures { fraction result ≡ last_entry (entry (at t) (at u) (points list.now)) 4 }
 {
-    let start = Share {
-        numerator: 0,
-        denominator: 1,
-    };
     let right = side_entry(list, Point { x: 1, y: 0 }, t, u);
     let left = side_entry(list, Point { x: -1, y: 0 }, t, u);
     let up = side_entry(list, Point { x: 0, y: 1 }, t, u);
     let down = side_entry(list, Point { x: 0, y: -1 }, t, u);
-    share::later(
-        share::later(share::later(share::later(start, right), left), up),
-        down,
-    )
+    Share::START.later(right).later(left).later(up).later(down)
 }
 
 // The entry through the wall with an outward direction.
@@ -103,7 +84,7 @@ fn side_entry(list: &[i32], d: Point, t: Point, u: Point) -> Share
         (contact_past (points list.now) (at d) (at u)) }
 {
     let far = direction::reach(list, d);
-    share::entering(point::dot(d, t) - far, point::dot(d, u) - far)
+    Share::entering(point::dot(d, t) - far, point::dot(d, u) - far)
 }
 
 // How far p is past the edge that leaves corner i, times its length.

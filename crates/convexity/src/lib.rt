@@ -26,16 +26,10 @@ struct Edge {
 pub fn passes(list: &[i32]) -> bool
     ensures { (result ≡ true → Valid list.now) × (Valid list.now → result ≡ true) }
 {
-    if rules::bad_count(list) {
-        return false;
-    }
-    if rules::too_many(list) {
-        return false;
-    }
-    if rules::some_outside(list) {
-        return false;
-    }
-    is_shape(list)
+    !rules::bad_count(list)
+        && !rules::too_many(list)
+        && !rules::some_outside(list)
+        && is_shape(list)
 }
 
 // Returns whether the corners are a shape. A point is one. Two corners are one if the first precedes the second. More
@@ -72,18 +66,16 @@ fn stretch(list: &[i32], start: usize, up: bool) -> usize
     requires { (start + 2 ≤ length (points list.now)) × InRange list.now }
     ensures { Stretch (edges (points list.now)) up start result }
 {
-    let n = corners::count(list);
+    let last = corners::count(list) - 2;
     let mut e = edge_at(list, start);
-    let mut k = start;
-    while k + 2 < n {
+    for k in start..last {
         let f = edge_at(list, k + 1);
         if !goes_on(e, f, up) {
             return k;
         }
         e = f;
-        k += 1;
     }
-    k
+    last
 }
 
 // Returns whether the closing edge goes down, strictly left of the edge before it.
@@ -115,8 +107,8 @@ fn between(p: Point, q: Point) -> Edge
     ensures { vector result ≡ at q ⊖ at p }
 {
     Edge {
-        run: (q.x - p.x) as i64,
-        rise: (q.y - p.y) as i64,
+        run: i64::from(q.x - p.x),
+        rise: i64::from(q.y - p.y),
     }
 }
 
@@ -127,10 +119,7 @@ fn goes_on(e: Edge, f: Edge, up: bool) -> bool
     requires { Small (2 ^ 22) (vector e) × Small (2 ^ 22) (vector f) }
     ensures { result ≡ goes_on up (vector e) (vector f) }
 {
-    if (0 <= f.rise) != up {
-        return false;
-    }
-    is_left(e, f)
+    (0 <= f.rise) == up && is_left(e, f)
 }
 
 // Returns whether f is strictly left of e.

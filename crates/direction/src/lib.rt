@@ -20,13 +20,7 @@ use polygon::{corners, limits, point};
 pub fn bad_direction(u: i32, v: i32) -> bool
     ensures { result ≡ bad_direction (point u v) }
 {
-    if zero(u, v) {
-        return true;
-    }
-    if limits::outside_part(u) {
-        return true;
-    }
-    limits::outside_part(v)
+    zero(u, v) || limits::outside_part(u) || limits::outside_part(v)
 }
 
 // Whether both parts are 0.
@@ -49,10 +43,7 @@ pub fn common_divisor(u: i32, v: i32) -> bool
 pub fn magnitude(z: i32) -> u32
     ensures { result ≡ nat_abs z }
 {
-    if z < 0 {
-        return (-1 - z) as u32 + 1;
-    }
-    z as u32
+    z.unsigned_abs()
 }
 
 // The first and the last of the corners with the greatest value, counterclockwise, and that value.
@@ -77,29 +68,14 @@ pub fn face_towards(list: &[i32], d: Point) -> Face
     let n = corners::count(list);
     let end = n - 1;
     let next = here + 1;
-    if here == 0 && 2 < n {
-        if reaches(list, end, d, value) {
-            return Face {
-                first: end,
-                last: here,
-                value,
-            };
-        }
-    }
-    if next < n {
-        if reaches(list, next, d, value) {
-            return Face {
-                first: here,
-                last: next,
-                value,
-            };
-        }
-    }
-    Face {
-        first: here,
-        last: here,
-        value,
-    }
+    let (first, last) = if here == 0 && 2 < n && reaches(list, end, d, value) {
+        (end, here)
+    } else if next < n && reaches(list, next, d, value) {
+        (here, next)
+    } else {
+        (here, here)
+    };
+    Face { first, last, value }
 }
 
 // The greatest value of a corner.
@@ -110,13 +86,8 @@ pub fn reach(list: &[i32], d: Point) -> i64
 {
     let n = corners::count(list);
     let mut greatest = value_at(list, 0, d);
-    let mut i = 1;
-    while i < n {
-        let next = value_at(list, i, d);
-        if greatest < next {
-            greatest = next;
-        }
-        i += 1;
+    for i in 1..n {
+        greatest = greatest.max(value_at(list, i, d));
     }
     greatest
 }
@@ -138,14 +109,12 @@ fn first_furthest(list: &[i32], d: Point) -> usize
     let n = corners::count(list);
     let mut position = 0;
     let mut value = value_at(list, 0, d);
-    let mut i = 1;
-    while i < n {
+    for i in 1..n {
         let next = value_at(list, i, d);
         if value < next {
             position = i;
             value = next;
         }
-        i += 1;
     }
     position
 }

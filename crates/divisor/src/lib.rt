@@ -16,13 +16,10 @@ pub fn divisor(a: u32, b: u32) -> u32
     if b == 0 {
         return a;
     }
-    let s = u32::trailing_zeros(a);
-    let t = u32::trailing_zeros(b);
+    let s = a.trailing_zeros();
+    let t = b.trailing_zeros();
     let odd = odd_divisor(strip(a, s), strip(b, t));
-    if s < t {
-        return odd << s;
-    }
-    odd << t
+    odd << s.min(t)
 }
 
 // The greatest common divisor of two odd numbers: the less is subtracted from the greater, and the difference, which is
@@ -35,9 +32,9 @@ fn odd_divisor(a: u32, b: u32) -> u32
     let mut y = b;
     while x != y {
         if x < y {
-            y = strip(y - x, u32::trailing_zeros(y - x));
+            y = strip(y - x, (y - x).trailing_zeros());
         } else {
-            x = strip(x - y, u32::trailing_zeros(x - y));
+            x = strip(x - y, (x - y).trailing_zeros());
         }
     }
     x

@@ -2,25 +2,18 @@
 // `questions`.
 #![tactic(auto)]
 
-ghost use Rattle.std.specs.Prelude.{false, ◌≡◌, [], ◌∷◌, ◌++◌, pos};
+ghost use Rattle.std.specs.Prelude.{false, ◌≡◌, [], ◌∷◌};
 ghost use Rattle.plane.specs.Point.{point};
 ghost use Rattle.plane.specs.Floor.{on};
 ghost use Rattle.plane.specs.Refusal.{some_outside};
-ghost use Rattle.plane.specs.Reply.{answered};
 ghost use Rattle.plane.specs.Question.{reply};
 ghost use Rattle.polygon.specs.Point.{at};
 ghost use Rattle.admission.specs.Admission.{Judged};
 ghost use Rattle.motion.specs.Contact.{ask_contact, place_row};
-ghost use Rattle.contact.specs.Share.{meeting_numbers};
 ghost use Rattle.drives.specs.Drive.{ask_drive};
-ghost use Rattle.drives.specs.Search.{found_numbers};
 ghost use Rattle.answers.specs.Answer.{of_contact, of_drive};
 
-use admission::Admission;
-use answers::{Contact, Drive, Refusal};
-use contact::drive::Meeting;
-use drives::Soonest;
-use journal::survey::Surveyed;
+use answers::{Answer, Drive, Meeting, OnFloor, Refusal};
 use polygon::limits;
 use polygon::point::Point;
 
@@ -38,7 +31,7 @@ pub fn contact(
     y: i32,
     u: i32,
     v: i32,
-) -> Contact
+) -> Answer<Option<Meeting>>
     ensures { of_contact result ≡ reply
         (ask_contact (on obstacle.now f) (on cart.now g) (point x y) (point u v)) }
 {
@@ -46,55 +39,33 @@ pub fn contact(
 }
 
 // The same, from the one place to the other.
-fn driven(obstacle: &[i32], f: u16, cart: &[i32], g: u16, from: Point, to: Point) -> Contact
+fn driven(
+    obstacle: &[i32],
+    f: u16,
+    cart: &[i32],
+    g: u16,
+    from: Point,
+    to: Point,
+) -> Answer<Option<Meeting>>
     ensures { of_contact result ≡ reply
         (ask_contact (on obstacle.now f) (on cart.now g) (at from) (at to)) }
 {
-    if let Admission::No(refusal) = admission::admit_pair(obstacle, f, cart, g) {
-        return Contact::No(refusal);
-    }
-    if let Admission::No(refusal) = admit_place(from, 3) {
-        return Contact::No(refusal);
-    }
-    if let Admission::No(refusal) = admit_place(to, 4) {
-        return Contact::No(refusal);
-    }
-    if let Admission::No(refusal) = passage::admit_grown(obstacle, cart) {
-        return Contact::No(refusal);
-    }
-    met(contact::first(obstacle, cart, from, to), f)
+    admission::admit_pair(obstacle, f, cart, g)?;
+    admit_place(from, 3)?;
+    admit_place(to, 4)?;
+    passage::admit_grown(obstacle, cart)?;
+    let answer = contact::first(obstacle, cart, from, to);
+    Ok(OnFloor { answer, floor: f })
 }
 
 // A place is judged: 3 if it is out of range.
-fn admit_place(p: Point, which: usize) -> Admission
+fn admit_place(p: Point, which: usize) -> Result<(), Refusal>
     ensures { Judged (some_outside (p.x ∷ p.y ∷ []) ≡ false) (place_row which (at p) ∷ []) result }
 {
-    if limits::outside(p.x) {
-        return Admission::No(Refusal::Range { shape: which });
+    if limits::outside(p.x) || limits::outside(p.y) {
+        return Err(Refusal::Range { shape: which });
     }
-    if limits::outside(p.y) {
-        return Admission::No(Refusal::Range { shape: which });
-    }
-    Admission::Valid
-}
-
-// What is met, as an answer.
-fn met(found: Meeting, floor: u16) -> Contact
-    ensures { of_contact result ≡ answered (meeting_numbers found ++ (pos floor ∷ [])) }
-{
-    match found {
-        Meeting::Never => Contact::Never { floor },
-        Meeting::At {
-            numerator,
-            denominator,
-            safe,
-        } => Contact::At {
-            numerator,
-            denominator,
-            safe,
-            floor,
-        },
-    }
+    Ok(())
 }
 
 // Which of the current shapes of a floor a cart meets first that drives straight from (x, y) to (u, v), without
@@ -103,7 +74,15 @@ fn met(found: Meeting, floor: u16) -> Contact
 // record is bad; 20 if no shape is on the floor; a place out of range, which is list 2 or 3; then 6 and 7 of the grown
 // shapes, shape by shape in the log's order.
 // Ruled out: last contact for first; later shape on a tie; older record counted; another floor counted.
-pub fn log_contact(log: &[u8], cart: &[i32], floor: u16, x: i32, y: i32, u: i32, v: i32) -> Drive
+pub fn log_contact(
+    log: &[u8],
+    cart: &[i32],
+    floor: u16,
+    x: i32,
+    y: i32,
+    u: i32,
+    v: i32,
+) -> Answer<Option<Drive>>
     ensures { of_drive result
         ≡ reply (ask_drive log.now (on cart.now floor) (point x y) (point u v)) }
 {
@@ -111,48 +90,18 @@ pub fn log_contact(log: &[u8], cart: &[i32], floor: u16, x: i32, y: i32, u: i32,
 }
 
 // The same, from the one place to the other.
-fn along(log: &[u8], cart: &[i32], floor: u16, from: Point, to: Point) -> Drive
+fn along(log: &[u8], cart: &[i32], floor: u16, from: Point, to: Point) -> Answer<Option<Drive>>
     ensures { of_drive result
         ≡ reply (ask_drive log.now (on cart.now floor) (at from) (at to)) }
 {
-    if let Admission::No(refusal) = admission::admit(cart, 1) {
-        return Drive::No(refusal);
-    }
-    if let Surveyed::Bad(place) = journal::survey::survey(log) {
-        return Drive::No(Refusal::Damaged { place });
-    }
+    admission::admit(cart, 1)?;
+    journal::survey::survey(log)?;
     if drives::floor::is_empty(log, floor) {
-        return Drive::No(Refusal::TooFew);
+        return Err(Refusal::TooFew);
     }
-    if let Admission::No(refusal) = admit_place(from, 2) {
-        return Drive::No(refusal);
-    }
-    if let Admission::No(refusal) = admit_place(to, 3) {
-        return Drive::No(refusal);
-    }
-    if let Admission::No(refusal) = gaps::sizes::admit_sizes(log, floor, cart) {
-        return Drive::No(refusal);
-    }
-    reached(drives::first(log, floor, cart, from, to), floor)
-}
-
-// What is met of a floor, as an answer.
-fn reached(found: Soonest, floor: u16) -> Drive
-    ensures { of_drive result ≡ answered (found_numbers found ++ (pos floor ∷ [])) }
-{
-    match found {
-        Soonest::Never => Drive::Never { floor },
-        Soonest::At {
-            name,
-            numerator,
-            denominator,
-            safe,
-        } => Drive::At {
-            name,
-            numerator,
-            denominator,
-            safe,
-            floor,
-        },
-    }
+    admit_place(from, 2)?;
+    admit_place(to, 3)?;
+    gaps::sizes::admit_sizes(log, floor, cart)?;
+    let answer = drives::first(log, floor, cart, from, to);
+    Ok(OnFloor { answer, floor })
 }

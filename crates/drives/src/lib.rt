@@ -3,8 +3,7 @@
 
 pub mod floor;
 
-ghost use Rattle.std.specs.Prelude.{false, ◌≡◌, ◌*◌, length};
-ghost use Rattle.plane.specs.Limits.{max_corners};
+ghost use Rattle.std.specs.Prelude.{false, ◌≡◌};
 ghost use Rattle.plane.specs.Point.{points};
 ghost use Rattle.plane.specs.Reply.{NoneApply};
 ghost use Rattle.plane.specs.Refusal.{Valid};
@@ -19,51 +18,25 @@ ghost use Rattle.gaps.specs.Search.{Walk};
 ghost use Rattle.drives.specs.Drive.{drive_numbers};
 ghost use Rattle.drives.specs.Search.{found_numbers, is_latest, is_sooner, kept_of, MetAs, Onward};
 
-use admission::Admission;
-use contact::drive::Meeting;
-use contact::share;
+use answers::{Drive, Meeting};
+use contact::share::Share;
 use gaps::growing;
-use journal::{current, head, records};
+use journal::{current, head, places};
 use polygon::limits;
 use polygon::point::Point;
 
-// The name of the first shape that is met, the fraction of the way at which it is, and the millimetres before it,
-// rounded down; never if no shape is met.
-#[derive(Clone, Copy)]
-pub enum Soonest {
-    Never,
-    At {
-        name: u16,
-        numerator: u64,
-        denominator: u64,
-        safe: u64,
-    },
-}
-
-// Returns the first current shape of a floor that a cart meets on its way from t to u: the first in the log on a tie.
-// No record of the log is bad, and all grown shapes are shapes.
-pub fn first(log: &[u8], floor: u16, cart: &[i32], t: Point, u: Point) -> Soonest
+// Returns the first current shape of a floor that a cart meets on its way from t to u, if it meets one: the first in
+// the log on a tie. No record of the log is bad, and all grown shapes are shapes.
+pub fn first(log: &[u8], floor: u16, cart: &[i32], t: Point, u: Point) -> Option<Drive>
     requires { (damaged (records log.now) ≡ false) × Valid cart.now × Places (at t) (at u)
         × NoneApply (size_rows_of (points cart.now) (on_floor floor log.now)) }
     ensures { found_numbers result
         ≡ drive_numbers (points cart.now) (at t) (at u) (on_floor floor log.now) }
 {
-    let mut shape = [0i32; limits::SHAPE_NUMBERS];
-    pass(log, floor, cart, t, u, &mut shape)
-}
-
-// The same, with a buffer that holds the numbers of any shape.
-fn pass(log: &[u8], floor: u16, cart: &[i32], t: Point, u: Point, shape: &mut [i32]) -> Soonest
-    requires { Walk (points cart.now) log.now floor 0 × Valid cart.now × Places (at t) (at u)
-        × (length shape.old ≡ 2 * max_corners) }
-    ensures { found_numbers result
-        ≡ drive_numbers (points cart.now) (at t) (at u) (on_floor floor log.now) }
-{
-    let mut best = Soonest::Never;
-    let mut p = 0;
-    while records::whole_at(log, p) {
-        best = look(log, p, floor, cart, t, u, best, shape);
-        p += 2 + endian::pair_at(log, p);
+    let mut buffer = [0i32; limits::SHAPE_NUMBERS];
+    let mut best = None;
+    for p in places::all(log) {
+        best = look(log, p, floor, cart, t, u, best, &mut buffer);
     }
     best
 }
@@ -77,76 +50,63 @@ fn look(
     cart: &[i32],
     t: Point,
     u: Point,
-    best: Soonest,
-    shape: &mut [i32],
-) -> Soonest
+    best: Option<Drive>,
+    buffer: &mut [i32; limits::SHAPE_NUMBERS],
+) -> Option<Drive>
     requires { Walk (points cart.now) log.now floor p × Sound log.now p × Valid cart.now
-        × Places (at t) (at u) × (length shape.old ≡ 2 * max_corners) }
-    ensures { Onward (points cart.now) (at t) (at u) floor log.now p best result
-        × (length shape.new ≡ 2 * max_corners) }
+        × Places (at t) (at u) }
+    ensures { Onward (points cart.now) (at t) (at u) floor log.now p best result }
 {
     if head::head_at(log, p).floor != floor {
         return best;
     }
-    let n = growing::read_at(log, p, shape);
-    kept(log, p, meet(&shape[..n], cart, t, u), best)
+    kept(
+        log,
+        p,
+        meet(growing::read_at(log, p, buffer), cart, t, u),
+        best,
+    )
 }
 
 // Where a cart first meets an obstacle, if the grown obstacle is a shape. If it is not, the record is an older one of
 // its name, and is passed over.
-fn meet(obstacle: &[i32], cart: &[i32], t: Point, u: Point) -> Meeting
+fn meet(obstacle: &[i32], cart: &[i32], t: Point, u: Point) -> Option<Meeting>
     requires { Valid obstacle.now × Valid cart.now × Places (at t) (at u) }
     ensures { MetAs (at t) (at u) (grown (points obstacle.now) (points cart.now)) result }
 {
-    if let Admission::No(refusal) = passage::admit_grown(obstacle, cart) {
-        return Meeting::Never;
+    match passage::admit_grown(obstacle, cart) {
+        Ok(()) => contact::first(obstacle, cart, t, u),
+        Err(_) => None,
     }
-    contact::first(obstacle, cart, t, u)
 }
 
 // The record at a place if it is met sooner than what was found and is the latest of its name; else what was found.
 // Later records are looked at last, since few records are sooner.
 // Ruled out: older record counted.
-fn kept(log: &[u8], p: usize, meeting: Meeting, best: Soonest) -> Soonest
+fn kept(log: &[u8], p: usize, met: Option<Meeting>, best: Option<Drive>) -> Option<Drive>
     requires { Sound log.now p }
     ensures { result
-        ≡ kept_of (is_latest log.now p) (format_name (record_at log.now p)) meeting best }
+        ≡ kept_of (is_latest log.now p) (format_name (record_at log.now p)) met best }
 {
-    let Meeting::At {
-        numerator,
-        denominator,
-        safe,
-    } = meeting
-    else {
+    let Some(meeting) = met else {
         return best;
     };
-    if !is_sooner(numerator, denominator, best) {
-        return best;
+    if is_sooner(meeting, best) && current::is_current(log, p) {
+        return Some(Drive {
+            name: head::head_at(log, p).name,
+            meeting,
+        });
     }
-    if !current::is_current(log, p) {
-        return best;
-    }
-    Soonest::At {
-        name: head::head_at(log, p).name,
-        numerator,
-        denominator,
-        safe,
-    }
+    best
 }
 
-// Whether a fraction of the way comes before what was found.
+// Whether a shape is met sooner than what was found.
 // Ruled out: later shape on a tie.
-fn is_sooner(numerator: u64, denominator: u64, best: Soonest) -> bool
-    ensures { result ≡ is_sooner numerator denominator best }
+fn is_sooner(meeting: Meeting, best: Option<Drive>) -> bool
+    ensures { result ≡ is_sooner meeting best }
 {
-    let Soonest::At {
-        name,
-        numerator: n,
-        denominator: d,
-        safe,
-    } = best
-    else {
-        return true;
-    };
-    share::is_less(numerator, d, n, denominator)
+    match best {
+        Some(found) => Share::from(meeting).is_less(Share::from(found.meeting)),
+        None => true,
+    }
 }

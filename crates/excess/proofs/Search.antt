@@ -4,13 +4,12 @@
 use mathlib.Core.Path.{◌≡◌, refl, sym, ◌∙◌, subst, ap}
 use mathlib.Core.Bool.{Bool, true, false, cond}
 use mathlib.Core.List.{List}
-use Prim.Native.Nat.{ℕ, suc, ◌*◌}
-use lib.Dec.{ltb}
+use Prim.Native.Nat.{ℕ, suc}
 use lib.ListN.{length}
 use Rattle.plane.specs.Point.{Point}
 use Rattle.plane.specs.Shape.{IsShape}
 use Rattle.excess.specs.Excess.{outermost}
-use Rattle.excess.specs.Answer.{HasFar}
+use Rattle.excess.specs.Answer.{HasFar, is_further}
 use Rattle.excess.specs.declared.outermost.Far.{Far}
 use Rattle.excess.proofs.theory.Outermost.{Furthest, furthest-start, furthest-keep, furthest-replace, furthest-done}
 use Rattle.excess.proofs.theory.Found.{far-further, far-no-further}
@@ -30,12 +29,11 @@ module _ {N O : List Point} where
   searched-start h = searched h (furthest-start N O)
 
   pub searched-next : {k : ℕ} {best found r : Far} → IsShape O → Searched N O k best → HasFar N O k found
-      → r ≡ cond (ltb (best.turn * best.turn * found.squared) (found.turn * found.turn * best.squared)) found best
+      → r ≡ cond (is_further best found) found best
       → Searched N O (suc k) r
-  searched-next {k} {best} {found} {r} s b h e = go (ltb (best.turn * best.turn * found.squared)
-      (found.turn * found.turn * best.squared)) refl
+  searched-next {k} {best} {found} {r} s b h e = go (is_further best found) refl
     where
-      go : (t : Bool) → ltb (best.turn * best.turn * found.squared) (found.turn * found.turn * best.squared) ≡ t
+      go : (t : Bool) → is_further best found ≡ t
           → Searched N O (suc k) r
       go true c = subst (Searched N O (suc k)) (sym (e ∙ ap (λ t. cond t found best) c))
           (searched h (furthest-replace N O s b.is-furthest (far-further N O s b.is-far h c)))

@@ -5,11 +5,11 @@ ghost use Rattle.plane.specs.Refusal.{Valid};
 ghost use Rattle.polygon.specs.Point.{at};
 ghost use Rattle.clearance.specs.Answer.{Spaced};
 
-use clearance::Spacing;
+use clearance::measured::Distance;
 use polygon::point::Point;
 
-// Whether the point is apart from the shape, and then where the shape is nearest to it.
-pub fn spacing(p: Point, shape: &[i32]) -> Spacing
+// Where the shape is nearest to the point, or None where the point is in it.
+pub fn spacing(p: Point, shape: &[i32]) -> Option<Distance>
     requires { Valid (numbers (at p ∷ [])) × Valid shape.now }
     ensures { Spaced (at p ∷ []) (points shape.now) result }
 {

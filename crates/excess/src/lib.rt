@@ -2,7 +2,6 @@
 #![tactic(auto)]
 
 mod alone;
-pub mod answer;
 mod outermost;
 mod rounding;
 
@@ -12,23 +11,20 @@ ghost use Rattle.plane.specs.Refusal.{Valid};
 ghost use Rattle.excess.specs.Excess.{excess_numbers};
 ghost use Rattle.excess.specs.Answer.{values_of};
 
-use answer::Beyond;
-use clearance::Spacing;
+use answers::Beyond;
 use polygon::corners;
 
-// How far the new shape reaches beyond the old one: at its corner that is furthest from the old shape. Where it is not
-// inside, that corner is apart.
+// How far the new shape reaches beyond the old one, or None where it is inside: at its corner that is furthest from the
+// old shape. Where it is not inside, that corner is apart.
 // Ruled out: later corner on a tie; old beyond new; rounded down.
-pub fn beyond(new: &[i32], old: &[i32]) -> Beyond
+pub fn beyond(new: &[i32], old: &[i32]) -> Option<Beyond>
     requires { Valid new.now × Valid old.now }
     ensures { values_of result ≡ excess_numbers (points new.now) (points old.now) }
 {
     if separation::inside(new, old) {
-        return Beyond::Inside;
+        return None;
     }
     let corner = outermost::outermost(new, old);
-    match alone::spacing(corners::corner_at(new, corner), old) {
-        Spacing::Meets => Beyond::Inside,
-        Spacing::Apart(found) => rounding::rounded(corner, found),
-    }
+    let found = alone::spacing(corners::corner_at(new, corner), old)?;
+    rounding::rounded(corner, found)
 }

@@ -4,12 +4,12 @@ ghost use Rattle.plane.specs.Measure.{root_below};
 ghost use Rattle.excess.specs.Excess.{root_above};
 ghost use Rattle.excess.specs.Answer.{values_of, RoundedDown, up_numbers};
 
-use crate::answer::Beyond;
+use answers::Beyond;
 use clearance::measured::Distance;
 
 // The distance of a corner, with the number of millimetres rounded up. A corner has no edge to fall on, so the third
 // kind does not come.
-pub fn rounded(corner: usize, found: Distance) -> Beyond
+pub fn rounded(corner: usize, found: Distance) -> Option<Beyond>
     requires { RoundedDown found }
     ensures { values_of result ≡ up_numbers corner found }
 {
@@ -19,26 +19,26 @@ pub fn rounded(corner: usize, found: Distance) -> Beyond
             squared,
             rounded,
             ..
-        } => Beyond::Corners {
+        } => Some(Beyond::Corners {
             corner,
             other: second,
             squared,
             up: above(squared, squared, rounded),
-        },
+        }),
         Distance::OnSecond {
             edge,
             turn,
             squared,
             rounded,
             ..
-        } => Beyond::Edge {
+        } => Some(Beyond::Edge {
             corner,
             edge,
             turn,
             squared,
             up: above(turn, squared, rounded),
-        },
-        Distance::OnFirst { .. } => Beyond::Inside,
+        }),
+        Distance::OnFirst { .. } => None,
     }
 }
 

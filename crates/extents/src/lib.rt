@@ -4,7 +4,6 @@
 
 ghost use Rattle.std.specs.Prelude.{true, ◌≡◌, ◌^◌};
 ghost use Rattle.plane.specs.Point.{points, ◌⊕◌};
-ghost use Rattle.plane.specs.Direction.{greater as direction_greater};
 ghost use Rattle.plane.specs.Refusal.{Valid};
 ghost use Rattle.polygon.specs.Point.{at, Small};
 ghost use Rattle.extents.specs.Far.{past, Bounded, Reaches, Far};
@@ -31,16 +30,9 @@ fn gap(p: Point, q: Point, least: i64) -> i64
     requires { Small (2 ^ 22) (at p) × Small (2 ^ 22) (at q) }
     ensures { result ≡ past least (at p ⊕ at q) }
 {
-    let x = -(p.x + q.x) as i64;
-    let y = -(p.y + q.y) as i64;
-    greater(least, greater(x, y))
-}
-
-// Returns the greater of two numbers.
-fn greater(x: i64, y: i64) -> i64
-    ensures { result ≡ direction_greater x y }
-{
-    if x <= y { y } else { x }
+    let x = i64::from(-(p.x + q.x));
+    let y = i64::from(-(p.y + q.y));
+    least.max(x.max(y))
 }
 
 // Returns the box about the vector sum of two shapes.

@@ -4,6 +4,7 @@
 --     HasGap A p         the gap of the pair is a fraction
 --     Found A b p q w    at p and q are good records, and w is how far apart their grown shapes are
 --     Told A b s         what is kept was found so
+--     best p q w         the pair at p and q, which are so far apart
 --     nearer p q w s     what is kept once the pair at p and q is compared
 --     is_nearer f s       the distance f is less than that of what is kept, or nothing is kept
 --     KeptSized s        what the distance of what is kept is divided by is not 0
@@ -17,6 +18,7 @@
 --     numbers_of g        what the inner function answers, as numbers
 --     Walk A b f p       what a loop knows at place p: no record from there on is bad, and the floor's shapes fit when they are grown
 use Rattle.std.specs.Prelude.{◌≡◌, Bool, true, false, not, cond, ◌&&◌, List, [], ◌∷◌, ◌++◌, map, ℕ, ◌≤◌, ◌<◌, ℤ, pos, length, drop, ◌<ℤ◌}
+use Rattle.std.specs.Prelude.{Option, Some, None}
 use Rattle.plane.specs.Point.{Point}
 use Rattle.plane.specs.Shape.{IsShape}
 use Rattle.plane.specs.Reply.{Row, NoneApply}
@@ -30,18 +32,18 @@ use Rattle.journal.specs.Reading.{damaged, held}
 use Rattle.journal.specs.Current.{is_around, around}
 use Rattle.journal.specs.Survey.{record_at, next_at, Sound}
 use Rattle.neighbours.specs.Spacing.{spacing_numbers, fraction_of, Sized}
-use Rattle.neighbours.specs.declared.spacing.Spacing.{Spacing}
+use Rattle.clearance.specs.declared.measured.Distance.{Distance}
 use Rattle.neighbours.specs.All.{All}
 use Rattle.gaps.specs.Gap.{Pair, Kept, no_pair, the_pair, grown_of, gap_of, no_wider, narrowest, size_rows_of}
-use Rattle.gaps.specs.declared.Narrowest.{Narrowest}
+use Rattle.answers.specs.declared.Gap.{Gap}
 use Rattle.gaps.specs.declared.search.Best.{Best}
 
 abbrev pub pair_at : List ℕ → ℕ → ℕ → Pair
 pair_at b p q = (record_at b p, record_at b q)
 
-abbrev pub kept_of : List ℕ → Best → Kept
-kept_of b Best.Nothing = no_pair
-kept_of b (Best.Pair p q w) = the_pair (pair_at b p q)
+abbrev pub kept_of : List ℕ → Option Best → Kept
+kept_of b None = no_pair
+kept_of b (Some s) = the_pair (pair_at b s.first s.second)
 
 abbrev pub since : List Point → Kept → List Pair → Kept
 since A no_pair ps = narrowest A ps
@@ -50,7 +52,7 @@ since A (the_pair p) ps = the_pair (least_of (no_wider A) p ps)
 abbrev pub HasGap : List Point → Pair → Type 0
 HasGap A p = pos 0 <ℤ (gap_of A p).denominator
 
-pub record Found (A : List Point) (b : List ℕ) (p q : ℕ) (w : Spacing) : Type 0 where
+pub record Found (A : List Point) (b : List ℕ) (p q : ℕ) (w : Option Distance) : Type 0 where
   pub first-sound : Sound b p
   pub second-sound : Sound b q
   pub has-gap : HasGap A (pair_at b p q)
@@ -58,24 +60,27 @@ pub record Found (A : List Point) (b : List ℕ) (p q : ℕ) (w : Spacing) : Typ
   pub fraction-is : fraction_of w ≡ gap_of A (pair_at b p q)
   pub sized : Sized w
 
-abbrev pub Told : List Point → List ℕ → Best → Type 0
-Told A b Best.Nothing = Unit {0}
-Told A b (Best.Pair p q w) = Found A b p q w
+abbrev pub Told : List Point → List ℕ → Option Best → Type 0
+Told A b None = Unit {0}
+Told A b (Some s) = Found A b s.first s.second s.distance
+
+abbrev pub best : ℕ → ℕ → Option Distance → Best
+best p q w = record { first = p; second = q; distance = w }
 
 -- the test of the code: a pair that is nearer takes the place of what is kept
-abbrev pub nearer : ℕ → ℕ → Spacing → Best → Best
-nearer p q w Best.Nothing = Best.Pair p q w
-nearer p q w (Best.Pair i j v) = cond (no_more (fraction_of v) (fraction_of w)) (Best.Pair i j v) (Best.Pair p q w)
+abbrev pub nearer : ℕ → ℕ → Option Distance → Option Best → Option Best
+nearer p q w None = Some (best p q w)
+nearer p q w (Some s) = cond (no_more (fraction_of s.distance) (fraction_of w)) (Some s) (Some (best p q w))
 
-abbrev pub is_nearer : Fraction → Best → Bool
-is_nearer f Best.Nothing = true
-is_nearer f (Best.Pair i j v) = not (no_more (fraction_of v) f)
+abbrev pub is_nearer : Fraction → Option Best → Bool
+is_nearer f None = true
+is_nearer f (Some s) = not (no_more (fraction_of s.distance) f)
 
-abbrev pub KeptSized : Best → Type 0
-KeptSized Best.Nothing = Unit {0}
-KeptSized (Best.Pair i j v) = Sized v
+abbrev pub KeptSized : Option Best → Type 0
+KeptSized None = Unit {0}
+KeptSized (Some s) = Sized s.distance
 
-pub record Passed (A : List Point) (b : List ℕ) (ps : List Pair) (s r : Best) : Type 0 where
+pub record Passed (A : List Point) (b : List ℕ) (ps : List Pair) (s r : Option Best) : Type 0 where
   pub told : Told A b r
   pub gaps : All (HasGap A) ps
   pub still : (rest : List Pair) → All (HasGap A) rest → since A (kept_of b s) (ps ++ rest) ≡ since A (kept_of b r) rest
@@ -87,7 +92,7 @@ unfoldable pub is_on : ℕ → List ℕ → ℕ → Bool
 is_on f b p = let r = record_at b p in not (held (name r) (records (drop (next_at b p) b))) && is_around f 65536 r
 
 -- the box is about a shape G to which the cart is added, since the record is not grown
-abbrev pub LeftOut : ℕ → List ℕ → ℕ → Extent → Best → Type 0
+abbrev pub LeftOut : ℕ → List ℕ → ℕ → Extent → Option Best → Type 0
 LeftOut f b q e s = is_on f b q ≡ true → (A G : List Point) → 0 < length A → IsShape G → Reaches G A e
     → is_nearer (distance G (grown_of A (record_at b q))) s ≡ false
 
@@ -112,6 +117,6 @@ pub record Walk (A : List Point) (b : List ℕ) (f p : ℕ) : Type 0 where
   pub sized : NoneApply (size_rows_of A (from f b p))
 
 -- what the inner function answers, as numbers
-abbrev pub numbers_of : Narrowest → List ℤ
-numbers_of Narrowest.Nothing = []
-numbers_of (Narrowest.Of n m w) = pos n ∷ pos m ∷ spacing_numbers w
+abbrev pub numbers_of : Option Gap → List ℤ
+numbers_of None = []
+numbers_of (Some g) = pos g.name ∷ pos g.other ∷ spacing_numbers g.distance

@@ -15,25 +15,13 @@ ghost use Rattle.journal.specs.Reading.{damaged};
 ghost use Rattle.gaps.specs.Gap.{on_floor, size_rows_of, gap_numbers};
 ghost use Rattle.gaps.specs.Search.{numbers_of};
 
+use answers::Gap;
 use journal::head;
-use neighbours::spacing::Spacing;
 use polygon::limits;
-use search::Best;
-
-// The names of two shapes, and how far apart they are once both are grown; nothing if a floor has fewer than two.
-#[derive(Clone, Copy)]
-pub enum Narrowest {
-    Nothing,
-    Of {
-        first: u16,
-        second: u16,
-        spacing: Spacing,
-    },
-}
 
 // Returns the narrowest gap between two current shapes of a floor, grown by a cart: the first pair in the log's order
-// on a tie. No record of the log is bad, and all grown shapes are shapes.
-pub fn gap(log: &[u8], floor: u16, cart: &[i32]) -> Narrowest
+// on a tie; None if a floor has fewer than two. No record of the log is bad, and all grown shapes are shapes.
+pub fn gap(log: &[u8], floor: u16, cart: &[i32]) -> Option<Gap>
     requires { (damaged (records log.now) ≡ false) × Valid cart.now
         × NoneApply (size_rows_of (points cart.now) (on_floor floor log.now)) }
     ensures { numbers_of result
@@ -42,17 +30,10 @@ pub fn gap(log: &[u8], floor: u16, cart: &[i32]) -> Narrowest
     let mut shape = [0i32; limits::SHAPE_NUMBERS];
     let mut above = [0i32; limits::SHAPE_NUMBERS];
     let mut below = [0i32; limits::SHAPE_NUMBERS];
-    let Best::Pair {
-        first,
-        second,
-        spacing,
-    } = search::narrowest(log, floor, cart, &mut shape, &mut above, &mut below)
-    else {
-        return Narrowest::Nothing;
-    };
-    Narrowest::Of {
-        first: head::head_at(log, first).name,
-        second: head::head_at(log, second).name,
-        spacing,
-    }
+    let pair = search::narrowest(log, floor, cart, &mut shape, &mut above, &mut below)?;
+    Some(Gap {
+        name: head::head_at(log, pair.first).name,
+        other: head::head_at(log, pair.second).name,
+        distance: pair.distance,
+    })
 }

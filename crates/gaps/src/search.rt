@@ -1,5 +1,5 @@
 // Inner functions: the search for the narrowest gap.
-ghost use Rattle.std.specs.Prelude.{true, ◌≡◌, ◌*◌, length};
+ghost use Rattle.std.specs.Prelude.{true, ◌≡◌, None};
 ghost use Rattle.plane.specs.Limits.{max_corners};
 ghost use Rattle.plane.specs.Point.{points};
 ghost use Rattle.plane.specs.Refusal.{Valid};
@@ -9,23 +9,20 @@ ghost use Rattle.neighbours.specs.Spacing.{Sized};
 ghost use Rattle.gaps.specs.Gap.{pairs_of, on_floor, grown_of};
 ghost use Rattle.gaps.specs.Search.{nearer as search_nearer};
 ghost use Rattle.gaps.specs.Search.{Walk, Told, KeptSized, Passed, LeftOut, pairs_at, tried_at, later_pairs};
-ghost use Rattle.gaps.specs.declared.search.Best.TheVariants as best_variants;
 
 use crate::{floor, growing};
-use journal::{head, records};
+use clearance::measured::Distance;
+use journal::{head, places, records};
 use neighbours::spacing;
-use neighbours::spacing::Spacing;
 use polygon::extent::Extent;
+use polygon::limits;
 
 // The pair that is kept: the places of its two records, and how far apart their grown shapes are.
 #[derive(Clone, Copy)]
-pub enum Best {
-    Nothing,
-    Pair {
-        first: usize,
-        second: usize,
-        spacing: Spacing,
-    },
+pub struct Best {
+    pub first: usize,
+    pub second: usize,
+    pub distance: Option<Distance>,
 }
 
 // Returns the first pair of least gap, if the floor has two shapes.
@@ -34,20 +31,17 @@ pub fn narrowest(
     log: &[u8],
     floor: u16,
     cart: &[i32],
-    shape: &mut [i32],
-    above: &mut [i32],
-    below: &mut [i32],
-) -> Best
-    requires { Walk (points cart.now) log.now floor 0 × Valid cart.now × (length shape.old ≡ 2 * max_corners)
-        × (length above.old ≡ 2 * max_corners) × (length below.old ≡ 2 * max_corners) }
+    shape: &mut [i32; limits::SHAPE_NUMBERS],
+    above: &mut [i32; limits::SHAPE_NUMBERS],
+    below: &mut [i32; limits::SHAPE_NUMBERS],
+) -> Option<Best>
+    requires { Walk (points cart.now) log.now floor 0 × Valid cart.now }
     ensures { Passed (points cart.now) log.now
-        (pairs_of (on_floor floor log.now)) best_variants.Nothing result }
+        (pairs_of (on_floor floor log.now)) None result }
 {
-    let mut best = Best::Nothing;
-    let mut p = 0;
-    while records::whole_at(log, p) {
+    let mut best = None;
+    for p in places::all(log) {
         best = from(log, p, floor, cart, best, shape, above, below);
-        p += 2 + endian::pair_at(log, p);
     }
     best
 }
@@ -58,23 +52,20 @@ fn from(
     p: usize,
     floor: u16,
     cart: &[i32],
-    best: Best,
-    shape: &mut [i32],
-    above: &mut [i32],
-    below: &mut [i32],
-) -> Best
+    best: Option<Best>,
+    shape: &mut [i32; limits::SHAPE_NUMBERS],
+    above: &mut [i32; limits::SHAPE_NUMBERS],
+    below: &mut [i32; limits::SHAPE_NUMBERS],
+) -> Option<Best>
     requires { Walk (points cart.now) log.now floor p × Sound log.now p × Valid cart.now
-        × (length shape.old ≡ 2 * max_corners) × (length above.old ≡ 2 * max_corners)
-        × (length below.old ≡ 2 * max_corners) × Told (points cart.now) log.now best }
-    ensures { Passed (points cart.now) log.now (pairs_at floor log.now p) best result
-        × (length shape.new ≡ 2 * max_corners) × (length above.new ≡ 2 * max_corners)
-        × (length below.new ≡ 2 * max_corners) }
+        × Told (points cart.now) log.now best }
+    ensures { Passed (points cart.now) log.now (pairs_at floor log.now p) best result }
 {
     if !floor::is_on(log, p, floor) {
         return best;
     }
-    let n = growing::grow_at(log, p, cart, shape, above);
-    later(log, p, floor, cart, best, &above[..2 * n], shape, below)
+    let grown = growing::grow_at(log, p, cart, shape, above);
+    later(log, p, floor, cart, best, grown, shape, below)
 }
 
 // The same of a record of the floor, which is grown.
@@ -83,25 +74,21 @@ fn later(
     p: usize,
     floor: u16,
     cart: &[i32],
-    best: Best,
+    best: Option<Best>,
     grown: &[i32],
-    shape: &mut [i32],
-    below: &mut [i32],
-) -> Best
+    shape: &mut [i32; limits::SHAPE_NUMBERS],
+    below: &mut [i32; limits::SHAPE_NUMBERS],
+) -> Option<Best>
     requires { Walk (points cart.now) log.now floor p × Sound log.now p × Valid cart.now
-        × (length shape.old ≡ 2 * max_corners) × (length below.old ≡ 2 * max_corners)
         × Told (points cart.now) log.now best × Valid grown.now
         × (points grown.now ≡ grown_of (points cart.now) (record_at log.now p)) }
     ensures { Passed (points cart.now) log.now
-        (later_pairs floor log.now p (next_at log.now p)) best result
-        × (length shape.new ≡ 2 * max_corners) × (length below.new ≡ 2 * max_corners) }
+        (later_pairs floor log.now p (next_at log.now p)) best result }
 {
     let reach = extents::reach(grown, cart);
     let mut kept = best;
-    let mut q = p + (2 + endian::pair_at(log, p));
-    while records::whole_at(log, q) {
+    for q in places::from(log, records::next_at(log, p)) {
         kept = tried(log, p, q, floor, cart, kept, grown, reach, shape, below);
-        q += 2 + endian::pair_at(log, q);
     }
     kept
 }
@@ -114,20 +101,18 @@ fn tried(
     q: usize,
     floor: u16,
     cart: &[i32],
-    best: Best,
+    best: Option<Best>,
     grown: &[i32],
     reach: Extent,
-    shape: &mut [i32],
-    below: &mut [i32],
-) -> Best
+    shape: &mut [i32; limits::SHAPE_NUMBERS],
+    below: &mut [i32; limits::SHAPE_NUMBERS],
+) -> Option<Best>
     requires { Walk (points cart.now) log.now floor q × Sound log.now p × Sound log.now q × Valid cart.now
-        × (length shape.old ≡ 2 * max_corners) × (length below.old ≡ 2 * max_corners)
         × Told (points cart.now) log.now best × Valid grown.now
         × (points grown.now ≡ grown_of (points cart.now) (record_at log.now p))
         × Reaches (points grown.now) (points cart.now) reach × Bounded reach }
     ensures { Passed (points cart.now) log.now
-        (tried_at floor log.now p q) best result
-        × (length shape.new ≡ 2 * max_corners) × (length below.new ≡ 2 * max_corners) }
+        (tried_at floor log.now p q) best result }
 {
     if is_passed(log, q, floor, reach, best, shape) {
         return best;
@@ -135,56 +120,46 @@ fn tried(
     if !floor::is_on(log, q, floor) {
         return best;
     }
-    let m = growing::grow_at(log, q, cart, shape, below);
-    nearer(p, q, spacing::between(grown, &below[..2 * m]), best)
+    let other = growing::grow_at(log, q, cart, shape, below);
+    nearer(p, q, clearance::between(grown, other), best)
 }
 
 // Returns whether the record at q is on another floor, or boxes show that its pair is not nearer than what is kept: the
 // box about the record, and that about the other shape, grown, and the cart.
-fn is_passed(log: &[u8], q: usize, floor: u16, reach: Extent, best: Best, shape: &mut [i32]) -> bool
-    requires { Sound log.now q × KeptSized best × (length shape.old ≡ 2 * max_corners) × Bounded reach }
-    ensures { (result ≡ true → LeftOut floor log.now q reach best)
-        × (length shape.new ≡ 2 * max_corners) }
+fn is_passed(
+    log: &[u8],
+    q: usize,
+    floor: u16,
+    reach: Extent,
+    best: Option<Best>,
+    shape: &mut [i32; limits::SHAPE_NUMBERS],
+) -> bool
+    requires { Sound log.now q × KeptSized best × Bounded reach }
+    ensures { result ≡ true → LeftOut floor log.now q reach best }
 {
     if head::head_at(log, q).floor != floor {
         return true;
     }
-    let Best::Pair {
-        first,
-        second,
-        spacing: old,
-    } = best
-    else {
+    let Some(old) = best else {
         return false;
     };
-    let n = growing::read_at(log, q, shape);
-    spacing::is_far(reach, &shape[..n], old)
+    spacing::is_far(reach, growing::read_at(log, q, shape), old.distance)
 }
 
 // The pair at p and q if it is nearer than what is kept, or nothing is; else what is kept.
 // Ruled out: wider pair kept.
-fn nearer(p: usize, q: usize, spacing: Spacing, best: Best) -> Best
-    requires { Sized spacing × KeptSized best }
-    ensures { result ≡ search_nearer p q spacing best }
+fn nearer(p: usize, q: usize, distance: Option<Distance>, best: Option<Best>) -> Option<Best>
+    requires { Sized distance × KeptSized best }
+    ensures { result ≡ search_nearer p q distance best }
 {
-    let Best::Pair {
-        first,
-        second,
-        spacing: old,
-    } = best
-    else {
-        return Best::Pair {
-            first: p,
-            second: q,
-            spacing,
-        };
-    };
-    if spacing::is_less(spacing, old) {
-        return Best::Pair {
-            first: p,
-            second: q,
-            spacing,
-        };
+    if let Some(old) = best {
+        if !spacing::is_less(distance, old.distance) {
+            return best;
+        }
     }
-    best
+    Some(Best {
+        first: p,
+        second: q,
+        distance,
+    })
 }

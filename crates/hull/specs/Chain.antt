@@ -1,18 +1,27 @@
 -- The two chains of two shapes together. Our own, not of document 01. A shape's right-hand chain runs up from its first corner to its
 -- last by y, then by x (its peak), its left-hand chain from there down to the first corner again.
+--     ordering_of z        the order of a sign: below 0 what comes first, 0 what is equal
 --     home ps t            where the chain down ends on the way round: after the last corner, and for a point at its one corner
 --     is_right s t p        p lies strictly to the right of the line from s to t
 --     row_first, row_end, taken      of the corners from one end of a chain to the other, those that may be on the chain from s to t: an
 --                          end only if it lies to the right
 --     right_rows, left_rows      those of two shapes, for the chain up from s to t and the chain down from t to s
 --     Spread A a B b s t   s is the least corner of two shapes, t is the greatest, and they differ
-use Rattle.std.specs.Prelude.{◌≡◌, Bool, true, false, cond, List, ◌++◌, ℕ, ◌+◌, ◌-◌, eqb, pos, length}
+use Rattle.std.specs.Prelude.{◌≡◌, Bool, true, false, cond, List, ◌++◌, ℕ, zero, suc, ◌+◌, ◌-◌, eqb, ℤ, pos, negsuc, length}
+use Rattle.std.specs.declared.cmp.Ordering.{Ordering}
+use Rattle.std.specs.declared.cmp.Ordering.TheVariants.{Less, Equal, Greater}
 use Rattle.std.specs.Int.Signed.{lt_z}
 use Rattle.plane.specs.Point.{Point, corner}
 use Rattle.plane.specs.Turn.{turn}
 use Rattle.plane.specs.Shape.{precedes}
 use Rattle.polygon.specs.Peak.{Peak}
 use Rattle.sorting.specs.Order.{foremost, closed, run}
+
+-- a sign, as code has it
+abbrev pub ordering_of : ℤ → Ordering
+ordering_of (negsuc n) = Less
+ordering_of (pos zero) = Equal
+ordering_of (pos (suc n)) = Greater
 
 abbrev pub home : List Point → ℕ → ℕ
 home ps t = cond (eqb t 0) 0 (length ps)

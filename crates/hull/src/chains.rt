@@ -9,7 +9,7 @@ use crate::rows::Row;
 use crate::{rows, scan};
 use polygon::corners;
 use polygon::point::Point;
-use sorting::order;
+use std::cmp::Ordering;
 
 // Where two rows go on, and how many corners are kept.
 #[derive(Clone, Copy)]
@@ -55,6 +55,7 @@ fn both(a: &[i32], row: Row, b: &[i32], other: Row, up: bool, buf: &mut [i32]) -
     let mut i = row.first;
     let mut j = other.first;
     let mut k = 1;
+    // A while: a step goes on in one row or in both.
     while i < row.end {
         if other.end <= j {
             return rest(a, i, row.end, buf, k);
@@ -68,6 +69,7 @@ fn both(a: &[i32], row: Row, b: &[i32], other: Row, up: bool, buf: &mut [i32]) -
 }
 
 // Pushes the next corner of two rows on the first k corners of the buffer.
+#[tactic(auto, using(sorting::specs::theory::Lengths::lengths))]
 fn push_next(a: &[i32], i: usize, b: &[i32], j: usize, up: bool, buf: &mut [i32], k: usize) -> Step
     requires { Line a.now (i + 1) × Line b.now (j + 1) × (k < length (points buf.old)) × SmallTo buf.old k }
     ensures { Stepped up (closed (points a.now)) i (closed (points b.now)) j
@@ -75,20 +77,22 @@ fn push_next(a: &[i32], i: usize, b: &[i32], j: usize, up: bool, buf: &mut [i32]
 {
     let p = rows::closed_at(a, i);
     let q = rows::closed_at(b, j);
-    let c = rows::order(up, p, q);
-    if c <= 0 {
-        let kept = scan::push(buf, k, p);
-        return Step {
+    match rows::order(up, p, q) {
+        Ordering::Less => Step {
             first: i + 1,
-            second: order::after(0 <= c, j),
-            kept,
-        };
-    }
-    let kept = scan::push(buf, k, q);
-    Step {
-        first: i,
-        second: j + 1,
-        kept,
+            second: j,
+            kept: scan::push(buf, k, p),
+        },
+        Ordering::Equal => Step {
+            first: i + 1,
+            second: j + 1,
+            kept: scan::push(buf, k, p),
+        },
+        Ordering::Greater => Step {
+            first: i,
+            second: j + 1,
+            kept: scan::push(buf, k, q),
+        },
     }
 }
 
@@ -100,10 +104,8 @@ fn rest(list: &[i32], from: usize, end: usize, buf: &mut [i32], k: usize) -> usi
         buf.new result }
 {
     let mut kept = k;
-    let mut i = from;
-    while i < end {
+    for i in from..end {
         kept = scan::push(buf, kept, rows::closed_at(list, i));
-        i += 1;
     }
     kept
 }

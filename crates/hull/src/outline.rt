@@ -35,12 +35,10 @@ fn side(list: &[i32], n: usize, up: bool, buf: &mut [i32]) -> usize
     ensures { Sided up (points list.now) n buf.old buf.new result }
 {
     let mut kept = 0;
-    let mut i = 0;
-    while i < n - 1 {
+    for i in 0..n - 1 {
         kept = scan::push(buf, kept, route_at(list, n, up, i));
-        i += 1;
     }
-    scan::settle(buf, kept, route_at(list, n, up, i))
+    scan::settle(buf, kept, route_at(list, n, up, n - 1))
 }
 
 // The point that is read after i others, of the first n on the way up or down.

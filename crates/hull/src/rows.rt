@@ -5,12 +5,12 @@ ghost use Rattle.plane.specs.Point.{points, corner};
 ghost use Rattle.plane.specs.Refusal.{InRange};
 ghost use Rattle.polygon.specs.Point.{at, Small};
 ghost use Rattle.sorting.specs.Order.{closed, Line, order as order_order, foremost as order_foremost};
-ghost use Rattle.hull.specs.Chain.{row_first, row_end, home as chain_home, is_right as chain_is_right};
+ghost use Rattle.hull.specs.Chain.{row_first, row_end, home as chain_home, is_right as chain_is_right, ordering_of};
 
 use crate::scan;
 use polygon::point::Point;
 use polygon::{corners, point};
-use sorting::order;
+use std::cmp::Ordering;
 
 // The corners from one position up to another.
 #[derive(Clone, Copy)]
@@ -21,6 +21,7 @@ pub struct Row {
 
 // The corners from one end of a shape's chain to the other that may be on the chain of two shapes, from one corner
 // to another: the ends themselves only if they lie to the right of the line from corner to corner.
+#[tactic(auto, using(sorting::specs::theory::Lengths::lengths))]
 pub fn trimmed(list: &[i32], low: usize, high: usize, from: Point, to: Point) -> Row
     requires { (low ≤ high) × (high ≤ length (points list.now)) × Line list.now high
         × Small (2 ^ 21) (at from) × Small (2 ^ 21) (at to) }
@@ -28,8 +29,8 @@ pub fn trimmed(list: &[i32], low: usize, high: usize, from: Point, to: Point) ->
         × (result.end ≡ row_end (closed (points list.now)) high (at from) (at to)) }
 {
     Row {
-        first: order::after(!is_right(list, low, from, to), low),
-        end: order::after(is_right(list, high, from, to), high),
+        first: low + usize::from(!is_right(list, low, from, to)),
+        end: high + usize::from(is_right(list, high, from, to)),
     }
 }
 
@@ -69,28 +70,28 @@ pub fn foremost(up: bool, a: &[i32], i: usize, b: &[i32], j: usize) -> Point
 {
     let p = corners::corner_at(a, i);
     let q = corners::corner_at(b, j);
-    if order(up, p, q) <= 0 {
-        return p;
+    match order(up, p, q) {
+        Ordering::Greater => q,
+        _ => p,
     }
-    q
 }
 
-// Which of two points comes first on the way up, or down: below 0 if it is p, above 0 if it is q, 0 if they are equal.
-pub fn order(up: bool, p: Point, q: Point) -> i32
-    ensures { result ≡ order_order up (at p) (at q) }
+// Which of two points comes first on the way up, or down.
+pub fn order(up: bool, p: Point, q: Point) -> Ordering
+    ensures { result ≡ ordering_of (order_order up (at p) (at q)) }
 {
     if up { ascent(p, q) } else { ascent(q, p) }
 }
 
 // The same on the way up.
-fn ascent(p: Point, q: Point) -> i32
-    ensures { result ≡ order_order true (at p) (at q) }
+fn ascent(p: Point, q: Point) -> Ordering
+    ensures { result ≡ ordering_of (order_order true (at p) (at q)) }
 {
     if point::precedes(p, q) {
-        return -1;
+        return Ordering::Less;
     }
     if point::precedes(q, p) {
-        return 1;
+        return Ordering::Greater;
     }
-    0
+    Ordering::Equal
 }

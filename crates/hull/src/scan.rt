@@ -27,10 +27,7 @@ pub fn settle(list: &[i32], k: usize, p: Point) -> usize
     ensures { Settled (points list.now) k (at p) result }
 {
     let mut kept = k;
-    while 2 <= kept {
-        if 0 < turn_on(list, kept, p) {
-            return kept;
-        }
+    while 2 <= kept && turn_on(list, kept, p) <= 0 {
         kept -= 1;
     }
     kept

@@ -8,7 +8,7 @@
 -- Then what the code's loops rest on:
 --     Judging                 the numbers of a record are a shape or not
 --     Survey                  a pass that judges records
---     Stepping                any loop over the records of a log
+--     Walk, Stepping          any loop over the records of a log
 --     Latest, Ahead           the latest of a name; whether a name is held from a place on
 --     Marks                   the last places of names, in a table
 --     Nth                     the current record at a position
@@ -24,6 +24,7 @@ pub mod History
 pub mod Current
 pub mod Judging
 pub mod Survey
+pub mod Walk
 pub mod Stepping
 pub mod Latest
 pub mod Ahead

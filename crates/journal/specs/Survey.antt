@@ -1,5 +1,6 @@
 -- What passes over a log tell of it. Our own, not of document 02.
---     surveyed b         where the first bad record is, or where the last whole record ends if none is bad
+--     surveyed b         where the first bad record is, as an error, or where the last whole record ends if none is bad
+--     damaged_at p, refused_at d    the error that names the place p, and refusal 15 of it
 --     Legible b p        the record at place p is inside the log, and long enough for what a record of its kind says
 --     Ample b l          the list l has room for the numbers of any shape that a record of the log b may have
 --     record_at b p       the record at place p; `next_at b p` the place after it
@@ -9,20 +10,27 @@
 --     newer n h r        what is found once a record with this head is looked at: it replaces what was found if it has the name
 --     Latest n b r       this of the latest record of the name n, or nowhere
 --     Entered b k r      the head of the current record at position k, or that there are too few
-use Rattle.std.specs.Prelude.{◌≡◌, true, false, cond, List, [], ℕ, ◌+◌, ◌*◌, ◌%◌, ◌≤◌, ◌<◌, eqb, length, get_or, take, drop}
+use Rattle.std.specs.Prelude.{◌≡◌, true, false, cond, Option, None, Some, Result, Ok, Err, List, [], ℕ, ◌+◌, ◌*◌, ◌%◌, ◌≤◌, ◌<◌, eqb}
+use Rattle.std.specs.Prelude.{length, get_or, take, drop}
 use Rattle.plane.specs.Limits.{max_corners}
 use Rattle.endian.specs.Bytes.{words_at}
 use Rattle.journal.specs.Format.{fixed_bytes, size, whole, records, kind, name, floor, list}
 use Rattle.journal.specs.Reading.{damaged, bad_place, held, latest}
 use Rattle.journal.specs.Current.{current}
 use Rattle.journal.specs.Adding.{end}
-use Rattle.journal.specs.declared.survey.Surveyed.{Surveyed}
+use Rattle.admission.specs.declared.answer.Refusal.{Refusal}
+use Rattle.journal.specs.declared.survey.Damaged.{Damaged}
 use Rattle.journal.specs.declared.head.Head.{Head}
-use Rattle.journal.specs.declared.current.Listed.{Listed}
 use Rattle.journal.specs.declared.latest.Found.{Found}
 
-unfoldable pub surveyed : List ℕ → Surveyed
-surveyed b = cond (damaged (records b)) (Surveyed.Bad (bad_place (records b))) (Surveyed.Ends (end b))
+abbrev pub damaged_at : ℕ → Damaged
+damaged_at p = record { place = p }
+
+abbrev pub refused_at : Damaged → Refusal
+refused_at d = Refusal.Damaged d.place
+
+unfoldable pub surveyed : List ℕ → Result ℕ Damaged
+surveyed b = cond (damaged (records b)) (Err (damaged_at (bad_place (records b)))) (Ok (end b))
 
 pub record Legible (b : List ℕ) (p : ℕ) : Type 0 where
   pub inside : p + (2 + size (drop p b)) ≤ length b
@@ -55,19 +63,22 @@ pub record Stated (b : List ℕ) (p : ℕ) (h : Head) : Type 0 where
   pub name-fits : h.name < 65536
   pub floor-fits : h.floor < 65536
 
-abbrev pub newer : ℕ → Head → Found → Found
-newer n h r = cond (eqb h.name n) (Found.At h.place h.count h.floor) r
+abbrev pub found_of : Head → Found
+found_of h = record { place = h.place; count = h.count; floor = h.floor }
 
-pub record LatestAt (n : ℕ) (b : List ℕ) (place count floor : ℕ) : Type 0 where
+abbrev pub newer : ℕ → Head → Option Found → Option Found
+newer n h r = cond (eqb h.name n) (Some (found_of h)) r
+
+pub record LatestAt (n : ℕ) (b : List ℕ) (f : Found) : Type 0 where
   pub has : held n (records b) ≡ true
-  pub inside : place + 4 * count ≤ length b
-  pub paired : count % 2 ≡ 0
-  pub list-is : (latest n (records b)).list ≡ words_at count b place
-  pub floor-is : (latest n (records b)).floor ≡ floor
+  pub inside : f.place + 4 * f.count ≤ length b
+  pub paired : f.count % 2 ≡ 0
+  pub list-is : (latest n (records b)).list ≡ words_at f.count b f.place
+  pub floor-is : (latest n (records b)).floor ≡ f.floor
 
-abbrev pub Latest : ℕ → List ℕ → Found → Type 0
-Latest n b Found.Nowhere = held n (records b) ≡ false
-Latest n b (Found.At place count floor) = LatestAt n b place count floor
+abbrev pub Latest : ℕ → List ℕ → Option Found → Type 0
+Latest n b None = held n (records b) ≡ false
+Latest n b (Some f) = LatestAt n b f
 
 pub record EntryAt (b : List ℕ) (k : ℕ) (h : Head) : Type 0 where
   pub place : ℕ
@@ -75,6 +86,6 @@ pub record EntryAt (b : List ℕ) (k : ℕ) (h : Head) : Type 0 where
   pub is : get_or (current (records b)) k [] ≡ record_at b place
   pub stated : Stated b place h
 
-abbrev pub Entered : List ℕ → ℕ → Listed → Type 0
-Entered b k Listed.Few = length (current (records b)) ≤ k
-Entered b k (Listed.At h) = EntryAt b k h
+abbrev pub Entered : List ℕ → ℕ → Option Head → Type 0
+Entered b k None = length (current (records b)) ≤ k
+Entered b k (Some h) = EntryAt b k h

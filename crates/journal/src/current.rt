@@ -3,64 +3,44 @@ ghost use Rattle.std.specs.Prelude.{false, not, ◌≡◌, drop};
 ghost use Rattle.journal.specs.Format.{records, name as format_name};
 ghost use Rattle.journal.specs.Reading.{damaged, held};
 ghost use Rattle.journal.specs.Survey.{record_at, next_at, Sound, Reached, Entered};
-ghost use Rattle.journal.specs.Marks.{Marked};
+ghost use Rattle.journal.specs.Marks.{Marked, places_of};
 
 use crate::head::Head;
-use crate::{head, marks, records};
+use crate::marks::Table;
+use crate::{head, places, records};
 
-// What the current record at a position says, or that there are too few.
-#[derive(Clone, Copy)]
-pub enum Listed {
-    At(Head),
-    Few,
-}
-
-// Returns what the current record at a position says. Positions count from 0, in the order of the log.
+// Returns what the current record at a position says, if there are as many. Positions count from 0, in the order of the
+// log.
 // Ruled out: older record of a name counted; floor before latest.
-pub fn entry(log: &[u8], k: usize) -> Listed
+pub fn entry(log: &[u8], k: usize) -> Option<Head>
     requires { damaged (records log.now) ≡ false }
     ensures { Entered log.now k result }
 {
-    if marks::serves(log) {
-        let mut table = [0u32; marks::PLACES];
-        marks::mark(log, &mut table);
-        return nth(log, k, &table);
-    }
-    nth(log, k, &[])
-}
-
-// The same, with a table of the log's last places, or with an empty one.
-fn nth(log: &[u8], k: usize, table: &[u32]) -> Listed
-    requires { (damaged (records log.now) ≡ false) × Marked log.now table.now 0 }
-    ensures { Entered log.now k result }
-{
+    let table = Table::of(log);
     let mut left = k;
-    let mut p = 0;
-    while records::whole_at(log, p) {
-        if is_latest(log, p, table) {
+    for p in places::all(log) {
+        if is_latest(log, p, &table) {
             if left == 0 {
-                return Listed::At(head::head_at(log, p));
+                return Some(head::head_at(log, p));
             }
             left -= 1;
         }
-        p = records::next_at(log, p);
     }
-    Listed::Few
+    None
 }
 
 // Whether no later record has the name of the record at a place. A record at its place of the table, or after it, is
 // the last of its name, and one before a record of its name there is not. Others are looked up.
 // Ruled out: record before its place counted.
-pub fn is_latest(log: &[u8], p: usize, table: &[u32]) -> bool
-    requires { Sound log.now p × Marked log.now table.now p }
+pub fn is_latest(log: &[u8], p: usize, table: &Table) -> bool
+    requires { Sound log.now p × Marked log.now (places_of table.now) p }
     ensures { result ≡ not (held (format_name (record_at log.now p))
         (records (drop (next_at log.now p) log.now))) }
 {
     let name = endian::pair_at(log, p + 4);
-    if table.len() <= name % marks::PLACES {
+    let Some(last) = table.place(name) else {
         return is_current(log, p);
-    }
-    let last = table[name % marks::PLACES] as usize;
+    };
     if last <= p {
         return true;
     }
@@ -84,12 +64,10 @@ fn is_held(log: &[u8], from: usize, name: usize) -> bool
     requires { Reached log.now from }
     ensures { result ≡ held name (records (drop from log.now)) }
 {
-    let mut p = from;
-    while records::whole_at(log, p) {
+    for p in places::from(log, from) {
         if endian::pair_at(log, p + 4) == name {
             return true;
         }
-        p = records::next_at(log, p);
     }
     false
 }

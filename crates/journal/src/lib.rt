@@ -5,7 +5,9 @@
 mod corners;
 pub mod current;
 pub mod head;
+pub mod kind;
 pub mod latest;
 pub mod marks;
+pub mod places;
 pub mod records;
 pub mod survey;

@@ -1,22 +1,12 @@
 // Inner functions: the record at a place of a log.
 ghost use Rattle.std.specs.Prelude.{true, ◌≡◌, ◌+◌, ◌≤◌, length, take, drop};
 ghost use Rattle.journal.specs.Format.{size as format_size, kind as format_kind, floor};
-ghost use Rattle.journal.specs.Format.{whole, bad, fixed_bytes, other_kind};
-ghost use Rattle.journal.specs.Survey.{Legible, Ample, next_at};
+ghost use Rattle.journal.specs.Format.{whole, bad};
+ghost use Rattle.journal.specs.Kind.{number};
+ghost use Rattle.journal.specs.Survey.{Legible, Ample, next_at, Sound};
 
 use crate::corners;
-
-// The kind of a record that says its floor: the one that is written.
-pub const FLOORED: usize = 2;
-
-// The kind of a record that says none, and is on floor 0.
-const PLAIN: usize = 1;
-
-// What the length counts besides the corners: kind, name, floor and last byte.
-pub const FLOORED_BYTES: usize = 7;
-
-// The same without a floor.
-const PLAIN_BYTES: usize = 5;
+use crate::kind::Kind;
 
 // The last byte of a record.
 pub const LAST_BYTE: u8 = 90;
@@ -31,13 +21,7 @@ pub fn whole_at(log: &[u8], p: usize) -> bool
         return false;
     }
     let size = endian::pair_at(log, p);
-    if size == 0 {
-        return false;
-    }
-    if room < 2 + size {
-        return false;
-    }
-    log[p + 1 + size] == LAST_BYTE
+    size != 0 && 2 + size <= room && log[p + 1 + size] == LAST_BYTE
 }
 
 // Returns the place after the whole record at a place.
@@ -57,14 +41,14 @@ pub fn bad_at(log: &[u8], p: usize, buffer: &mut [i32]) -> bool
         × (length buffer.new ≡ length buffer.old) }
 {
     let size = endian::pair_at(log, p);
-    if size < PLAIN_BYTES {
+    if size < Kind::Plain.fixed_bytes() {
         return true;
     }
-    let kind = endian::pair_at(log, p + 2);
-    if is_other(kind) {
+    let number = endian::pair_at(log, p + 2);
+    let Some(kind) = Kind::from_number(number) else {
         return true;
-    }
-    let fixed = fixed_bytes(kind);
+    };
+    let fixed = kind.fixed_bytes();
     if size < fixed {
         return true;
     }
@@ -74,35 +58,22 @@ pub fn bad_at(log: &[u8], p: usize, buffer: &mut [i32]) -> bool
     !corners::is_shape_at(log, p + 1 + fixed, (size - fixed) / 4, buffer)
 }
 
-// Whether no record may have the kind.
-fn is_other(kind: usize) -> bool
-    ensures { result ≡ other_kind kind }
+// Returns the kind of the record at a place, if no record from there on is bad.
+pub fn kind_at(log: &[u8], p: usize) -> Kind
+    requires { Sound log.now p }
+    ensures { format_kind (drop p log.now) ≡ number result }
 {
-    if kind == PLAIN {
-        return false;
-    }
-    kind != FLOORED
+    Kind::from_number(endian::pair_at(log, p + 2)).unwrap()
 }
 
-// What the length counts besides the corners in a record of the kind.
-pub fn fixed_bytes(kind: usize) -> usize
-    ensures { result ≡ fixed_bytes kind }
-{
-    if kind == FLOORED {
-        return FLOORED_BYTES;
-    }
-    PLAIN_BYTES
-}
-
-// Returns the floor of the record at a place: 0 if none of its `fixed` bytes, which its length counts besides the
-// corners, are a floor's.
+// Returns the floor of the record at a place, which has the kind: 0 if it says none.
 // Ruled out: kind 1 read as its own floor.
-pub fn floor_at(log: &[u8], p: usize, fixed: usize) -> u16
-    requires { Legible log.now p × (fixed ≡ fixed_bytes (format_kind (drop p log.now))) }
+pub fn floor_at(log: &[u8], p: usize, kind: Kind) -> u16
+    requires { Legible log.now p × (format_kind (drop p log.now) ≡ number kind) }
     ensures { result ≡ floor (drop p log.now) }
 {
-    if fixed < FLOORED_BYTES {
-        return 0;
+    match kind {
+        Kind::Plain => 0,
+        Kind::Floored => endian::pair_at(log, p + 6) as u16,
     }
-    endian::pair_at(log, p + 6) as u16
 }

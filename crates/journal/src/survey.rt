@@ -2,7 +2,8 @@
 ghost use Rattle.std.specs.Prelude.{◌≡◌};
 ghost use Rattle.journal.specs.Survey.{Ample, surveyed};
 
-use crate::records;
+use crate::{places, records};
+use admission::answer::Refusal;
 use polygon::limits;
 
 // The length of a log for which a smaller buffer is enough. It takes less time to clear.
@@ -11,15 +12,26 @@ const SHORT: usize = 1024;
 // The most numbers in a record of such a log.
 const SHORT_NUMBERS: usize = 256;
 
-// Where the last whole record ends, if no record is bad; else where the first bad record is.
+// Where the first bad record of a log is.
 #[derive(Clone, Copy)]
-pub enum Surveyed {
-    Ends(usize),
-    Bad(usize),
+pub struct Damaged {
+    pub place: usize,
 }
 
-// Goes over all whole records and judges the corners of each.
-pub fn survey(log: &[u8]) -> Surveyed
+impl From<Damaged> for Refusal {
+    ghost use Rattle.journal.specs.Survey.{refused_at};
+
+    ghost from_gives = { λ d r. r ≡ refused_at d };
+
+    fn from(damaged: Damaged) -> Refusal {
+        Refusal::Damaged {
+            place: damaged.place,
+        }
+    }
+}
+
+// Goes over all whole records and judges the corners of each. Returns where the last whole record ends, if none is bad.
+pub fn survey(log: &[u8]) -> Result<usize, Damaged>
     ensures { result ≡ surveyed log.now }
 {
     if log.len() <= SHORT {
@@ -31,16 +43,16 @@ pub fn survey(log: &[u8]) -> Surveyed
 }
 
 // The same, with a buffer that holds the numbers of any shape in the log.
-fn pass(log: &[u8], buffer: &mut [i32]) -> Surveyed
+fn pass(log: &[u8], buffer: &mut [i32]) -> Result<usize, Damaged>
     requires { Ample log.now buffer.old }
     ensures { result ≡ surveyed log.now }
 {
-    let mut p = 0;
-    while records::whole_at(log, p) {
-        if records::bad_at(log, p, buffer) {
-            return Surveyed::Bad(p);
+    let mut end = 0;
+    for place in places::all(log) {
+        if records::bad_at(log, place, buffer) {
+            return Err(Damaged { place });
         }
-        p = records::next_at(log, p);
+        end = records::next_at(log, place);
     }
-    Surveyed::Ends(p)
+    Ok(end)
 }

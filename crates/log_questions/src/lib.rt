@@ -11,39 +11,29 @@ ghost use Rattle.journal.specs.Format.{records};
 ghost use Rattle.journal.specs.Reading.{damaged, ask_read};
 ghost use Rattle.journal.specs.Adding.{added, end as adding_end};
 
-use admission::Admission;
-use answers::{Addition, Answer, Refusal};
-use journal::latest::Found;
-use journal::survey::Surveyed;
+use answers::{Addition, Answer, OnFloor, Refusal};
 
 // Writes the corners of the latest record of a name at the front of the output, and answers how many they are, and the
 // floor of the record: 0 of one of kind 1, which says none. All after them is kept. A log ends where no whole record
 // is. Refused, with the output as it was: a log in which some record is of another kind, a wrong length, or no
 // shape (with the byte place of the first); a name that no record has; too small an output.
 // Ruled out: first record for the latest; record lost after another.
-pub fn log_read(log: &[u8], name: u16, out: &mut [i32]) -> Answer
+pub fn log_read(log: &[u8], name: u16, out: &mut [i32]) -> Answer<usize>
     ensures { (of_answer result ≡ reply (ask_read log.now name out.old))
         × (out.new ≡ output (ask_read log.now name out.old)) }
 {
-    if let Surveyed::Bad(place) = journal::survey::survey(log) {
-        return Answer::No(Refusal::Damaged { place });
-    }
-    let Found::At {
-        place,
-        count,
-        floor,
-    } = journal::latest::latest(log, name)
-    else {
-        return Answer::No(Refusal::NoRecord);
+    journal::survey::survey(log)?;
+    let Some(found) = journal::latest::latest(log, name) else {
+        return Err(Refusal::NoRecord);
     };
-    if out.len() < count {
-        return Answer::No(Refusal::Room);
+    if out.len() < found.count {
+        return Err(Refusal::Room);
     }
-    endian::decode(log, place, count, out);
-    Answer::Corners {
-        count: count / 2,
-        floor,
-    }
+    endian::decode(log, found.place, found.count, out);
+    Ok(OnFloor {
+        answer: found.count / 2,
+        floor: found.floor,
+    })
 }
 
 // Adds a shape on a floor under a name after the last whole record of a log, with at most `allowed` stores of single
@@ -51,17 +41,19 @@ pub fn log_read(log: &[u8], name: u16, out: &mut [i32]) -> Answer
 // is stored last: a cut addition changes no answer of `log_read`. Refused, with nothing stored: 1 to 5 of the list; a
 // log in which some record is bad; too little room.
 // Ruled out: full one byte early; cut called finished; last byte stored first; tail cleared from its front.
-pub fn log_add(log: &mut [u8], name: u16, floor: u16, list: &[i32], allowed: usize) -> Addition
+pub fn log_add(
+    log: &mut [u8],
+    name: u16,
+    floor: u16,
+    list: &[i32],
+    allowed: usize,
+) -> Result<Addition, Refusal>
     ensures { (of_addition result ≡ (added log.old name floor list.now allowed).reply)
         × (log.new ≡ (added log.old name floor list.now allowed).log) }
 {
-    if let Admission::No(refusal) = admission::admit(list, 1) {
-        return Addition::No(refusal);
-    }
-    match journal::survey::survey(log) {
-        Surveyed::Bad(place) => Addition::No(Refusal::Damaged { place }),
-        Surveyed::Ends(end) => add_after(log, end, name, floor, list, allowed),
-    }
+    admission::admit(list, 1)?;
+    let end = journal::survey::survey(log)?;
+    add_after(log, end, name, floor, list, allowed)
 }
 
 // Adds a shape after the last whole record, or refuses 16.
@@ -72,17 +64,17 @@ fn add_after(
     floor: u16,
     list: &[i32],
     allowed: usize,
-) -> Addition
+) -> Result<Addition, Refusal>
     requires { Valid list.now × (damaged (records log.old) ≡ false) × (end ≡ adding_end log.old) }
     ensures { (of_addition result ≡ (added log.old name floor list.now allowed).reply)
         × (log.new ≡ (added log.old name floor list.now allowed).log) }
 {
     if storing::is_full(log, end, list) {
-        return Addition::No(Refusal::Full);
+        return Err(Refusal::Full);
     }
     if storing::add(log, end, name, floor, list, allowed) {
-        Addition::Finished
+        Ok(Addition::Finished)
     } else {
-        Addition::Cut
+        Ok(Addition::Cut)
     }
 }

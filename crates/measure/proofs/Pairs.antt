@@ -1,5 +1,4 @@
 -- The search for the length: the moves of `Search`.
---     kept-level                    what is kept of two pairs at the same distance
 --     apart-inner, pair-bounds      the pair of two sides where the first corner does not come again
 --     pair-kept                     if it comes after the best, it is taken only if it is further apart
 --     search-start, -next, -done    at the end: the answer
@@ -29,15 +28,11 @@ use Rattle.measure.specs.Answer.{IsLength}
 use Rattle.measure.specs.Comparison.{NotAfter, sooner, level, NoBetter, Stands}
 use Rattle.measure.specs.Half.{HalfStep, right, left}
 use Rattle.measure.specs.Partway.{Leads, Apart, Search}
-use Rattle.measure.specs.Scan.{HalfAt, pair_at, apart_at, Behind, Earlier, best-first, next-first, Kept, kept, replaced}
+use Rattle.measure.specs.Scan.{HalfAt, pair_at, apart_at, Behind, Kept, kept, replaced}
 use Rattle.measure.specs.theory.LengthScan.{leads-start, leads-keep, leads-replace, leads-done}
 use Rattle.measure.proofs.Stepped.{half-corners}
 
 -- ---- the better of two pairs
-
-pub kept-level : {best next r : Length} → best.squared ≡ next.squared → Earlier best next r → Kept best next r
-kept-level e (best-first g n) = kept g (record { no-further = omega (arith, e); no-earlier = λ h. n })
-kept-level e (next-first g n) = replaced g (record { no-further = omega (arith, e); no-earlier = λ h. n })
 
 behind-no_better : {A : List Point} {p q : Length} → Apart A p → Apart A q → Behind p q
     → NoBetter A p.from p.to q.from q.to

@@ -3,7 +3,6 @@
 --     pair_at s t              the positions of these two sides, with the squared distance of their corners
 --     apart_at n s t           the same, of n corners: after the last comes the first, which is then given first
 --     Behind p q              the pair p is no better than q: not further apart, and if as far, not earlier
---     Earlier best next r     r is the pair of the two that comes first, by its first position and then by its second
 --     Kept best next r        r is the better of two pairs: further apart, then earlier
 --     Fits s t                the edge of s and the corner of t can be multiplied, and the corner is not right of the edge
 --     measured_at s t          the edge of s, measured at the corner of t
@@ -50,10 +49,6 @@ apart_at n s t = record {
 pub record Behind (p q : Length) : Type 0 where
   pub no-further : p.squared ≤ q.squared
   pub no-earlier : q.squared ≤ p.squared → NotAfter q.from q.to p.from p.to
-
-pub data Earlier (best next r : Length) : Type 0 where
-  best-first : r ≡ best → NotAfter best.from best.to next.from next.to → Earlier best next r
-  next-first : r ≡ next → NotAfter next.from next.to best.from best.to → Earlier best next r
 
 pub data Kept (best next r : Length) : Type 0 where
   kept : r ≡ best → Behind next best → Kept best next r

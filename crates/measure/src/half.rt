@@ -12,6 +12,14 @@ use calipers::side;
 use calipers::side::Side;
 use polygon::corners;
 
+// Two sides on the half walk, and the best so far of what is sought.
+#[derive(Clone, Copy)]
+pub struct Partway<T> {
+    pub s: Side,
+    pub t: Side,
+    pub best: T,
+}
+
 // Whether the next step passes the edge of s, on the right-hand chain, and not that of t, on the left-hand one: it
 // comes first by direction, the other turned round. Of two parallel edges the left-hand one is passed first. A chain
 // that is passed, at the top or at the end, waits for the other.
@@ -19,13 +27,7 @@ pub fn goes_right(top: usize, end: usize, s: Side, t: Side) -> bool
     requires { Small (2 ^ 22) (next_of s) × Small (2 ^ 22) (next_of t) }
     ensures { result ≡ goes_right top end s.at t.at (cross (next_of s) (next_of t)) }
 {
-    if s.at == top {
-        return false;
-    }
-    if t.at == end {
-        return true;
-    }
-    side::order(s, t) < 0
+    s.at != top && (t.at == end || side::order(s, t) < 0)
 }
 
 // Whether both chains have an edge after the next one, the last edge of the list not counted.
@@ -33,10 +35,7 @@ pub fn are_inside(top: usize, end: usize, s: Side, t: Side) -> bool
     requires { (s.at < 2 ^ 63) × (t.at < 2 ^ 63) }
     ensures { result ≡ true → (s.at + 1 < top) × (t.at + 2 < end) }
 {
-    if top <= s.at + 1 {
-        return false;
-    }
-    t.at + 2 < end
+    s.at + 1 < top && t.at + 2 < end
 }
 
 // One edge on, where at least three are left. The corner there is read and not reached along the edge: no step then

@@ -7,20 +7,13 @@ ghost use Rattle.polygon.specs.Point.{Small};
 ghost use Rattle.calipers.specs.Side.{corner_of};
 ghost use Rattle.measure.specs.Answer.{IsLength};
 ghost use Rattle.measure.specs.Partway.{Begins, Search};
-ghost use Rattle.measure.specs.Scan.{pair_at, apart_at, Earlier, Kept};
+ghost use Rattle.measure.specs.Scan.{pair_at, apart_at, Kept};
 
+use crate::half::Partway;
 use crate::{Length, half, magnitude};
 use calipers::side::Side;
 use calipers::{edges, side};
 use polygon::{corners, peak};
-
-// Two sides on the half walk, and the best pair so far.
-#[derive(Clone, Copy)]
-struct Partway {
-    s: Side,
-    t: Side,
-    best: Length,
-}
 
 // The first of all pairs at the greatest distance. The best so far is carried with its distance.
 pub fn longest(list: &[i32]) -> Length
@@ -45,7 +38,7 @@ pub fn longest(list: &[i32]) -> Length
 
 // The half walk as long as both chains have edges left: one branch by the sign, and no test for the end of a chain. The
 // pairs come in the order of their positions, so that only one further apart is better.
-fn stride(list: &[i32], n: usize, top: usize, end: usize) -> Partway
+fn stride(list: &[i32], n: usize, top: usize, end: usize) -> Partway<Length>
     requires { Begins list.now top end × (n ≡ length (points list.now)) }
     ensures { Search list.now n top end result.s result.t result.best }
 {
@@ -102,28 +95,13 @@ fn apart(n: usize, s: Side, t: Side) -> Length
     }
 }
 
-// The better of two pairs: further apart, then earlier.
+// The better of two pairs: further apart, then earlier, by the first position and then by the second.
 fn better(best: Length, next: Length) -> Length
     ensures { Kept best next result }
 {
-    if next.squared < best.squared {
-        return best;
+    if (best.squared, next.from, next.to) < (next.squared, best.from, best.to) {
+        next
+    } else {
+        best
     }
-    if best.squared < next.squared {
-        return next;
-    }
-    earlier(best, next)
-}
-
-// Of two pairs the one with the smaller first position, then the smaller second.
-fn earlier(best: Length, next: Length) -> Length
-    ensures { Earlier best next result }
-{
-    if next.from < best.from {
-        return next;
-    }
-    if best.from < next.from {
-        return best;
-    }
-    if next.to < best.to { next } else { best }
 }

@@ -7,6 +7,7 @@ ghost use Rattle.measure.specs.Comparison.{Facing};
 ghost use Rattle.measure.specs.Partway.{Begins, Sweep};
 ghost use Rattle.measure.specs.Scan.{Fits, measured_at, Chosen, Best, Opposed};
 
+use crate::half::Partway;
 use crate::{half, magnitude};
 use calipers::side::Side;
 use calipers::{edges, side};
@@ -19,14 +20,6 @@ pub struct Across {
     pub corner: usize,
     pub turn: u64,
     pub squared: u64,
-}
-
-// Two sides on the half walk, and the best edge so far.
-#[derive(Clone, Copy)]
-struct Partway {
-    s: Side,
-    t: Side,
-    best: Across,
 }
 
 // The first of all edges with the least width. Before any is measured, the width is 1/0.
@@ -53,7 +46,7 @@ pub fn narrowest(list: &[i32]) -> Across
 }
 
 // The half walk as long as both chains have edges left: one branch by the sign, and no test for the end of a chain.
-fn stride(list: &[i32], top: usize, end: usize) -> Partway
+fn stride(list: &[i32], top: usize, end: usize) -> Partway<Across>
     requires { Begins list.now top end × (2 < length (points list.now)) }
     ensures { Sweep list.now top end result.s result.t result.best }
 {
@@ -65,6 +58,7 @@ fn stride(list: &[i32], top: usize, end: usize) -> Partway
         turn: 1,
         squared: 0,
     };
+    // A loop beside that of `longest`: an edge is measured before it is passed, and a pair of corners after the step.
     while half::are_inside(top, end, s, t) {
         if side::order(s, t) < 0 {
             best = narrower(best, measured(s, t));

@@ -18,23 +18,17 @@ ghost use Rattle.neighbours.specs.Spacing.{fraction_of, Sized};
 ghost use Rattle.neighbours.specs.Search.{near_numbers, is_latest, is_nearer, is_met, kept_of, NearSized};
 ghost use Rattle.neighbours.specs.Search.{NotNearer, Onward};
 
+use answers::Nearest;
+use clearance::measured::Distance;
 use journal::head::Head;
-use journal::{current, head, records};
+use journal::{current, head, places};
 use polygon::extent::Extent;
 use polygon::{extent, limits};
-use spacing::Spacing;
 
-// The name of a shape and how far it is; or no shape.
-#[derive(Clone, Copy)]
-pub enum Near {
-    Nobody,
-    Of { name: u16, spacing: Spacing },
-}
-
-// Returns the nearest to a shape of the current shapes on a floor, the name `but` left out: the first in the log on a
-// tie. No record of the log is bad.
+// Returns the nearest to a shape of the current shapes on a floor, the name `but` left out, if there is one, and how
+// far it is, None where they meet: the first in the log on a tie. No record of the log is bad.
 // Ruled out: later shape on a tie; the excepted name answered.
-pub fn nearest(log: &[u8], list: &[i32], floor: u16, but: usize) -> Near
+pub fn nearest(log: &[u8], list: &[i32], floor: u16, but: usize) -> Option<Nearest>
     requires { (damaged (records log.now) ≡ false) × Valid list.now }
     ensures { near_numbers result
         ≡ nearest_numbers (points list.now) (around floor but (records log.now)) }
@@ -44,20 +38,18 @@ pub fn nearest(log: &[u8], list: &[i32], floor: u16, but: usize) -> Near
 }
 
 // The same, with a buffer that holds the numbers of any shape. The search ends at a shape that meets the given one.
-fn pass(log: &[u8], list: &[i32], floor: u16, but: usize, buffer: &mut [i32]) -> Near
+fn pass(log: &[u8], list: &[i32], floor: u16, but: usize, buffer: &mut [i32]) -> Option<Nearest>
     requires { (damaged (records log.now) ≡ false) × Valid list.now × (length buffer.old ≡ 2 * max_corners) }
     ensures { near_numbers result
         ≡ nearest_numbers (points list.now) (around floor but (records log.now)) }
 {
     let extent = extent::extent_of(list);
-    let mut best = Near::Nobody;
-    let mut p = 0;
-    while records::whole_at(log, p) {
+    let mut best = None;
+    for p in places::all(log) {
         best = look(log, p, list, extent, floor, but, best, buffer);
         if is_met(best) {
             return best;
         }
-        p += 2 + endian::pair_at(log, p);
     }
     best
 }
@@ -71,9 +63,9 @@ fn look(
     extent: Extent,
     floor: u16,
     but: usize,
-    best: Near,
+    best: Option<Nearest>,
     buffer: &mut [i32],
-) -> Near
+) -> Option<Nearest>
     requires { Sound log.now p × Valid list.now × NearSized best × (length buffer.old ≡ 2 * max_corners)
         × Extends (points list.now) extent }
     ensures { Onward (points list.now) floor but log.now p best result
@@ -88,74 +80,53 @@ fn look(
     if is_passed(extent, shape, best) {
         return best;
     }
-    kept(log, p, head.name, spacing::between(list, shape), best)
+    let near = Nearest {
+        name: head.name,
+        distance: clearance::between(list, shape),
+    };
+    kept(log, p, near, best)
 }
 
 // Returns whether boxes show that a shape is not nearer than what was found. If nothing was found, none do.
-fn is_passed(extent: Extent, shape: &[i32], best: Near) -> bool
+fn is_passed(extent: Extent, shape: &[i32], best: Option<Nearest>) -> bool
     requires { Bounded extent × Valid shape.now × NearSized best }
     ensures { result ≡ true → NotNearer extent (points shape.now) best }
 {
-    let Near::Of {
-        name,
-        spacing: held,
-    } = best
-    else {
-        return false;
-    };
-    spacing::is_far(extent, shape, held)
+    best.is_some_and(|held| spacing::is_far(extent, shape, held.distance))
 }
 
 // Returns whether a record is on the floor and has another name than `but`.
 fn is_asked(head: Head, floor: u16, but: usize) -> bool
     ensures { result ≡ (eqb head.floor floor && not (eqb head.name but)) }
 {
-    if head.floor != floor {
-        return false;
-    }
-    head.name as usize != but
+    head.floor == floor && usize::from(head.name) != but
 }
 
 // The record at a place if it is nearer than what was found and is the latest of its name; else what was found. On a
 // tie the first stays. Later records are looked at last, since few records are nearer.
 // Ruled out: older record counted.
-fn kept(log: &[u8], p: usize, name: u16, spacing: Spacing, best: Near) -> Near
-    requires { Sound log.now p × Sized spacing × NearSized best }
-    ensures { result ≡ kept_of (is_latest log.now p) name spacing best }
+fn kept(log: &[u8], p: usize, near: Nearest, best: Option<Nearest>) -> Option<Nearest>
+    requires { Sound log.now p × Sized near.distance × NearSized best }
+    ensures { result ≡ kept_of (is_latest log.now p) near best }
 {
-    if !is_nearer(spacing, best) {
-        return best;
+    if is_nearer(near.distance, best) && current::is_current(log, p) {
+        Some(near)
+    } else {
+        best
     }
-    if !current::is_current(log, p) {
-        return best;
-    }
-    Near::Of { name, spacing }
 }
 
 // Returns whether a distance is less than that of what was found. Any is, if nothing was found.
-fn is_nearer(spacing: Spacing, best: Near) -> bool
-    requires { Sized spacing × NearSized best }
-    ensures { result ≡ is_nearer (fraction_of spacing) best }
+fn is_nearer(distance: Option<Distance>, best: Option<Nearest>) -> bool
+    requires { Sized distance × NearSized best }
+    ensures { result ≡ is_nearer (fraction_of distance) best }
 {
-    let Near::Of {
-        name,
-        spacing: held,
-    } = best
-    else {
-        return true;
-    };
-    spacing::is_less(spacing, held)
+    best.is_none_or(|held| spacing::is_less(distance, held.distance))
 }
 
 // Returns whether what was found meets the shape. Then no other is nearer.
-fn is_met(best: Near) -> bool
+fn is_met(best: Option<Nearest>) -> bool
     ensures { result ≡ is_met best }
 {
-    let Near::Of { name, spacing } = best else {
-        return false;
-    };
-    let Spacing::Apart(distance) = spacing else {
-        return true;
-    };
-    false
+    matches!(best, Some(Nearest { distance: None, .. }))
 }

@@ -19,10 +19,8 @@ pub fn copy(
         new.new }
 {
     let mut count = need;
-    let mut i = 0;
-    while i < n {
+    for i in 0..n {
         count = mend(new, q + i, old[p + i], count, allowed);
-        i += 1;
     }
     count
 }
@@ -34,10 +32,8 @@ pub fn blank(new: &mut [u8], q: usize, need: usize, allowed: usize) -> usize
         new.new }
 {
     let mut count = need;
-    let mut at = q;
-    while at < new.len() {
+    for at in q..new.len() {
         count = mend(new, at, 0, count, allowed);
-        at += 1;
     }
     count
 }

@@ -1,61 +1,23 @@
 // How far a changed shape reaches beyond the old one: which answers about the old one stay.
-ghost use Rattle.std.specs.Prelude.{◌≡◌, [], ◌∷◌, ◌++◌, pos};
+ghost use Rattle.std.specs.Prelude.{◌≡◌};
 ghost use Rattle.plane.specs.Floor.{on};
-ghost use Rattle.plane.specs.Reply.{answered};
 ghost use Rattle.plane.specs.Question.{reply};
-ghost use Rattle.excess.specs.Answer.{values_of};
 ghost use Rattle.excess.specs.Excess.{ask_excess};
 ghost use Rattle.answers.specs.Answer.{of_excess};
 
-use admission::Admission;
-use answers::Excess;
-use excess::answer::Beyond;
+use answers::{Answer, Beyond, OnFloor};
 
-// How far the new shape reaches beyond the old one. Inside, if it reaches nowhere further. Else its corner that is
+// How far the new shape reaches beyond the old one. None if it reaches nowhere further. Else its corner that is
 // furthest from the old shape, the smallest position of several; where the old shape is nearest to that corner, as
 // `clearance` says it; and that distance in millimetres, rounded up: a clearance of the old shape from anything is less
 // by at most this for the new one. Either may be a point or a segment. Refused: 1 to 5 of the new shape, then of the
 // old one; different floors.
-pub fn excess(new: &[i32], f: u16, old: &[i32], g: u16) -> Excess
+pub fn excess(new: &[i32], f: u16, old: &[i32], g: u16) -> Answer<Option<Beyond>>
     ensures { of_excess result ≡ reply (ask_excess (on new.now f) (on old.now g)) }
 {
-    if let Admission::No(refusal) = admission::admit_pair(new, f, old, g) {
-        return Excess::No(refusal);
-    }
-    told(excess::beyond(new, old), f)
-}
-
-// How far it reaches, as an answer.
-fn told(found: Beyond, floor: u16) -> Excess
-    ensures { of_excess result ≡ answered (values_of found ++ (pos floor ∷ [])) }
-{
-    match found {
-        Beyond::Inside => Excess::Inside { floor },
-        Beyond::Corners {
-            corner,
-            other,
-            squared,
-            up,
-        } => Excess::Corners {
-            corner,
-            other,
-            squared,
-            up,
-            floor,
-        },
-        Beyond::Edge {
-            corner,
-            edge,
-            turn,
-            squared,
-            up,
-        } => Excess::Edge {
-            corner,
-            edge,
-            turn,
-            squared,
-            up,
-            floor,
-        },
-    }
+    admission::admit_pair(new, f, old, g)?;
+    Ok(OnFloor {
+        answer: excess::beyond(new, old),
+        floor: f,
+    })
 }

@@ -5,25 +5,19 @@ ghost use Rattle.plane.specs.Question.{reply};
 ghost use Rattle.reach.specs.Greatest.{ask_greatest};
 ghost use Rattle.answers.specs.Answer.{of_greatest};
 
-use admission::Admission;
-use answers::Greatest;
+use answers::{Answer, Length, OnFloor};
 
 // The greatest squared distance of a point of one shape and a point of the other, which two corners have, and their
 // positions. Of several such pairs: the smallest position in the first shape, then the smallest in the second. Two
 // points have their own distance, and a shape and itself its length. Refused: 1 to 5 of the first shape, then of the
 // second; different floors.
 // Ruled out: later pair on a tie; nearer pair kept; later edge passed first.
-pub fn greatest(a: &[i32], f: u16, b: &[i32], g: u16) -> Greatest
+pub fn greatest(a: &[i32], f: u16, b: &[i32], g: u16) -> Answer<Length>
     ensures { of_greatest result ≡ reply (ask_greatest (on a.now f) (on b.now g)) }
 {
-    if let Admission::No(refusal) = admission::admit_pair(a, f, b, g) {
-        return Greatest::No(refusal);
-    }
-    let found = reach::furthest_corners(a, b);
-    Greatest::At {
-        squared: found.squared,
-        first: found.from,
-        second: found.to,
+    admission::admit_pair(a, f, b, g)?;
+    Ok(OnFloor {
+        answer: reach::furthest_corners(a, b),
         floor: f,
-    }
+    })
 }

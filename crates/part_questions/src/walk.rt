@@ -11,9 +11,8 @@ ghost use Rattle.admission.specs.Admission.{Judged};
 ghost use Rattle.part_questions.specs.Answer.{of_begun, of_part};
 ghost use Rattle.part_questions.specs.Walk.{state_of};
 
-use crate::answer::{Begun, Part};
-use admission::Admission;
-use admission::answer::Refusal;
+use crate::answer::Part;
+use admission::answer::{Answer, OnFloor, Refusal};
 use polygon::limits;
 use sums::size;
 
@@ -31,23 +30,19 @@ pub struct Walk {
 // 5 of the first shape, then of the second; different floors; then a sum of too many corners, and one out of range. No
 // output is asked for yet.
 // Ruled out: too large a sum begun; far sum begun.
-pub fn begin(a: &[i32], f: u16, b: &[i32], g: u16) -> Begun
+pub fn begin(a: &[i32], f: u16, b: &[i32], g: u16) -> Answer<Walk>
     ensures { of_begun result ≡ reply (ask_begin (on a.now f) (on b.now g)) }
 {
-    if let Admission::No(refusal) = admission::admit_pair(a, f, b, g) {
-        return Begun::No(refusal);
-    }
-    if let Admission::No(refusal) = survey(a, b) {
-        return Begun::No(refusal);
-    }
-    Begun::At {
-        walk: Walk {
+    admission::admit_pair(a, f, b, g)?;
+    survey(a, b)?;
+    Ok(OnFloor {
+        answer: Walk {
             first: 0,
             second: 0,
             over: false,
         },
         floor: f,
-    }
+    })
 }
 
 impl Walk {
@@ -58,26 +53,30 @@ impl Walk {
     // range; and an output too small for the corners of this call.
     // Ruled out: fourteen after six; thirteen after fourteen; walk handed back unmoved; room asked for the
     // whole sum.
-    pub fn part(self, a: &[i32], f: u16, b: &[i32], g: u16, k: usize, out: &mut [i32]) -> Part
+    pub fn part(
+        self,
+        a: &[i32],
+        f: u16,
+        b: &[i32],
+        g: u16,
+        k: usize,
+        out: &mut [i32],
+    ) -> Answer<Part>
         ensures { (of_part result
             ≡ reply (ask_part (on a.now f) (on b.now g) (state_of self) k out.old))
             × (out.new
             ≡ output (ask_part (on a.now f) (on b.now g) (state_of self) k out.old)) }
     {
-        if let Admission::No(refusal) = admission::admit_pair(a, f, b, g) {
-            return Part::No(refusal);
-        }
+        admission::admit_pair(a, f, b, g)?;
         if !sums::walk::is_place(a, b, self.first, self.second, self.over) {
-            return Part::No(Refusal::NotAPlace);
+            return Err(Refusal::NotAPlace);
         }
-        if let Admission::No(whole) = survey(a, b) {
-            return Part::No(whole);
-        }
+        survey(a, b)?;
         self.write(a, f, b, g, k, out)
     }
 
     // The same at a place of a sum that is answered, of two shapes on one floor.
-    fn write(self, a: &[i32], f: u16, b: &[i32], g: u16, k: usize, out: &mut [i32]) -> Part
+    fn write(self, a: &[i32], f: u16, b: &[i32], g: u16, k: usize, out: &mut [i32]) -> Answer<Part>
         requires { Same (on a.now f) (on b.now g) × (is_place a.now b.now (state_of self) ≡ true)
             × NoneApply (size_rows (whole_sum a.now b.now)) }
         ensures { (of_part result
@@ -85,38 +84,37 @@ impl Walk {
             × (out.new
             ≡ output (ask_part (on a.now f) (on b.now g) (state_of self) k out.old)) }
     {
-        if self.over {
-            return Part::Corners {
+        if self.over || k == 0 {
+            let none = Part {
                 count: 0,
                 walk: self,
-                floor: f,
             };
-        }
-        if k == 0 {
-            return Part::Corners {
-                count: 0,
-                walk: self,
+            return Ok(OnFloor {
+                answer: none,
                 floor: f,
-            };
+            });
         }
         if !size::has_room(a, b, self.first, self.second, k, out.len()) {
-            return Part::No(Refusal::Room);
+            return Err(Refusal::Room);
         }
         let went = sums::walk::walk_on(a, b, self.first, self.second, k, out);
-        Part::Corners {
-            count: went.count,
-            walk: Walk {
-                first: went.first,
-                second: went.second,
-                over: went.over,
+        let walk = Walk {
+            first: went.first,
+            second: went.second,
+            over: went.over,
+        };
+        Ok(OnFloor {
+            answer: Part {
+                count: went.count,
+                walk,
             },
             floor: f,
-        }
+        })
     }
 }
 
 // Judges the whole sum of two shapes by its size, without writing it: 6, then 7.
-fn survey(a: &[i32], b: &[i32]) -> Admission
+fn survey(a: &[i32], b: &[i32]) -> Result<(), Refusal>
     requires { Valid a.now × Valid b.now }
     ensures { Judged (NoneApply (size_rows (whole_sum a.now b.now)))
         (size_rows (whole_sum a.now b.now)) result }

@@ -4,7 +4,7 @@
 --     corridor_numbers A B     these if the shapes are apart, else 0
 --     way_numbers w            the numbers of what the code returns
 -- What it means: `corridor-passage` of the theory, between the grown obstacles it is the passage.
-use Rattle.std.specs.Prelude.{cond, List, [], ◌∷◌, ◌*◌, ℤ, pos, nat_abs}
+use Rattle.std.specs.Prelude.{cond, Option, Some, None, List, [], ◌∷◌, ◌*◌, ℤ, pos, nat_abs}
 use Rattle.plane.specs.Point.{Point}
 use Rattle.plane.specs.Direction.{value, support}
 use Rattle.plane.specs.Primitive.{primitive}
@@ -13,7 +13,7 @@ use Rattle.plane.specs.Separation.{apart}
 use Rattle.plane.specs.Clearance.{nearest}
 use Rattle.strips.specs.Strip.{least, gap_in}
 use Rattle.strips.specs.OwnDirection.{towards}
-use Rattle.passage.specs.declared.corridor.Way.{Way}
+use Rattle.answers.specs.declared.Lane.{Lane}
 
 abbrev pub widest_of : List Point → List Point → Point
 widest_of A B = primitive (towards A B (nearest A B))
@@ -27,6 +27,6 @@ widest_numbers A B =
 abbrev pub corridor_numbers : List Point → List Point → List ℤ
 corridor_numbers A B = cond (apart A B) (widest_numbers A B) (pos 0 ∷ [])
 
-abbrev pub way_numbers : Way → List ℤ
-way_numbers Way.Blocked = pos 0 ∷ []
-way_numbers (Way.Free u v low high width) = pos 1 ∷ u ∷ v ∷ low ∷ high ∷ pos width ∷ []
+abbrev pub way_numbers : Option Lane → List ℤ
+way_numbers None = pos 0 ∷ []
+way_numbers (Some w) = pos 1 ∷ w.u ∷ w.v ∷ w.low ∷ w.high ∷ pos w.width ∷ []

@@ -10,49 +10,35 @@ ghost use Rattle.polygon.specs.Point.{at};
 ghost use Rattle.strips.specs.Strip.{least as strip_least};
 ghost use Rattle.passage.specs.Corridor.{widest_numbers, corridor_numbers, way_numbers};
 
+use answers::Lane;
 use measure::magnitude;
 use polygon::point;
 use polygon::point::Point;
 use separation::answer::Relation;
 use separator::primitive;
 
-// No way, or one: the direction across it, the values of its two lines in that direction, and its width in millimetres
-// rounded down.
-#[derive(Clone, Copy)]
-pub enum Way {
-    Blocked,
-    Free {
-        u: i32,
-        v: i32,
-        low: i64,
-        high: i64,
-        width: u64,
-    },
-}
-
-// The widest corridor between two shapes, the second below it and the first above it; blocked if they are not apart.
+// The widest corridor between two shapes, the second below it and the first above it; None if they are not apart.
 // Ruled out: touching counted as passable.
-pub fn corridor(a: &[i32], b: &[i32]) -> Way
+pub fn corridor(a: &[i32], b: &[i32]) -> Option<Lane>
     requires { Valid a.now × Valid b.now }
     ensures { way_numbers result ≡ corridor_numbers (points a.now) (points b.now) }
 {
     match separation::relation(a, b) {
-        Relation::Apart => widest(a, b),
-        Relation::Touching => Way::Blocked,
-        Relation::Overlapping => Way::Blocked,
+        Relation::Apart => Some(widest(a, b)),
+        Relation::Touching | Relation::Overlapping => None,
     }
 }
 
 // The same of two shapes that are apart.
 // Ruled out: low line taken of the left obstacle.
-fn widest(a: &[i32], b: &[i32]) -> Way
+fn widest(a: &[i32], b: &[i32]) -> Lane
     requires { Valid a.now × Valid b.now × (apart (points a.now) (points b.now) ≡ true) }
-    ensures { way_numbers result ≡ widest_numbers (points a.now) (points b.now) }
+    ensures { way_numbers (Some result) ≡ widest_numbers (points a.now) (points b.now) }
 {
     let n = primitive::primitive(clearance::towards(a, b));
     let low = direction::reach(b, n);
     let high = least(a, n);
-    Way::Free {
+    Lane {
         u: n.x,
         v: n.y,
         low,

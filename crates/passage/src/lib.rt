@@ -13,15 +13,15 @@ ghost use Rattle.growth.specs.Grown.{grown};
 ghost use Rattle.passage.specs.Passage.{passage_numbers};
 ghost use Rattle.passage.specs.Corridor.{way_numbers};
 
-use admission::Admission;
-use corridor::Way;
+use admission::answer::Refusal;
+use answers::Lane;
 use polygon::{limits, peak};
 use separation::differences;
 
 // The way of a cart between two obstacles that are shapes, also when they are grown by it: the widest corridor between
-// the grown obstacles.
+// the grown obstacles. None if it is blocked.
 // Ruled out: one obstacle grown only; cart not mirrored; left obstacle grown twice.
-pub fn between(left: &[i32], right: &[i32], cart: &[i32]) -> Way
+pub fn between(left: &[i32], right: &[i32], cart: &[i32]) -> Option<Lane>
     requires { Valid left.now × Valid right.now × Valid cart.now
         × Valid (numbers (grown (points left.now) (points cart.now)))
         × Valid (numbers (grown (points right.now) (points cart.now))) }
@@ -37,7 +37,7 @@ pub fn between(left: &[i32], right: &[i32], cart: &[i32]) -> Way
 }
 
 // Judges an obstacle grown by the cart by its size, before it is made: 6, then 7.
-pub fn admit_grown(obstacle: &[i32], cart: &[i32]) -> Admission
+pub fn admit_grown(obstacle: &[i32], cart: &[i32]) -> Result<(), Refusal>
     requires { Valid obstacle.now × Valid cart.now }
     ensures { Judged
         (NoneApply (size_rows (grown (points obstacle.now) (points cart.now))))

@@ -13,24 +13,29 @@ use Rattle.plane.specs.Search.{first}
 use Rattle.plane.specs.Shape.{breaks}
 use Rattle.plane.specs.Refusal.{equal_pair, left_broken, breaking_edge, breaking_corner, rule_broken, broken_edge, broken_corner}
 use Rattle.polygon.specs.Broken.{left_break, broken}
-use Rattle.polygon.specs.declared.rules.Broken.TheVariants.{At, Nowhere}
+use Rattle.std.specs.Prelude.{Some, None}
+use Rattle.polygon.specs.declared.rules.Broken.{Broken}
+
+-- what is found there
+abbrev pub at : ℕ → ℕ → Broken
+at e c = record { edge = e; corner = c }
 
 module _ (ps : List Point) where
   -- ---- the left rule
 
-  pub left-break-nowhere : left_broken ps ≡ false → Nowhere ≡ left_break ps
-  left-break-nowhere h = ap (λ b. cond b (At (breaking_edge ps) (breaking_corner ps)) Nowhere) (sym h)
+  pub left-break-nowhere : left_broken ps ≡ false → None ≡ left_break ps
+  left-break-nowhere h = ap (λ b. cond b (Some (at (breaking_edge ps) (breaking_corner ps))) None) (sym h)
 
-  pub left-break-at : (e c : ℕ) → left_broken ps ≡ true → breaking_edge ps ≡ e → first (breaks ps e) (length ps) ≡ c → At e c ≡ left_break
-      ps
+  pub left-break-at : (e c : ℕ) → left_broken ps ≡ true → breaking_edge ps ≡ e → first (breaks ps e) (length ps) ≡ c
+      → Some (at e c) ≡ left_break ps
   unfolding breaking_corner
   left-break-at e c h p q =
-      ap₂ At (sym p) (sym q ∙ ap (λ k. first (breaks ps k) (length ps)) (sym p))
-      ∙ ap (λ b. cond b (At (breaking_edge ps) (breaking_corner ps)) Nowhere) (sym h)
+      ap₂ (λ (m n : ℕ). Some (at m n)) (sym p) (sym q ∙ ap (λ k. first (breaks ps k) (length ps)) (sym p))
+      ∙ ap (λ b. cond b (Some (at (breaking_edge ps) (breaking_corner ps))) None) (sym h)
 
   -- ---- row 4
 
-  pub broken-pair : equal_pair ps ≡ true → At 0 1 ≡ broken ps
+  pub broken-pair : equal_pair ps ≡ true → Some (at 0 1) ≡ broken ps
   unfolding rule_broken broken_edge broken_corner
   broken-pair h = rw h
 
@@ -40,17 +45,19 @@ module _ (ps : List Point) where
 
   -- ---- and back, for who asked
 
-  pub broken-found : (e c : ℕ) → broken ps ≡ At e c → (rule_broken ps ≡ true) × (broken_edge ps ≡ e) × (broken_corner ps ≡ c)
+  pub broken-found : (e c : ℕ) → broken ps ≡ Some (at e c) → (rule_broken ps ≡ true) × (broken_edge ps ≡ e) × (broken_corner ps ≡ c)
   broken-found e c h = go (rule_broken ps) refl h
     where
-      go : (b : Bool) → rule_broken ps ≡ b → cond b (At (broken_edge ps) (broken_corner ps)) Nowhere ≡ At e c
+      go : (b : Bool) → rule_broken ps ≡ b → cond b (Some (at (broken_edge ps) (broken_corner ps))) None ≡ Some (at e c)
           → (rule_broken ps ≡ true) × (broken_edge ps ≡ e) × (broken_corner ps ≡ c)
-      go true p q = (p, cc, cc)
+      go true p q =
+          let same : at (broken_edge ps) (broken_corner ps) ≡ at e c = cc in
+          (p, ap (λ (b : Broken). b.edge) same, ap (λ (b : Broken). b.corner) same)
       go false p q = absurd (let z : ◌≡◌ {A = ℕ} 0 1 = cc in let f : ⊥ = omega arith in f)
 
-  pub broken-none : broken ps ≡ Nowhere → rule_broken ps ≡ false
+  pub broken-none : broken ps ≡ None → rule_broken ps ≡ false
   broken-none h = go (rule_broken ps) refl h
     where
-      go : (b : Bool) → rule_broken ps ≡ b → cond b (At (broken_edge ps) (broken_corner ps)) Nowhere ≡ Nowhere → rule_broken ps ≡ false
+      go : (b : Bool) → rule_broken ps ≡ b → cond b (Some (at (broken_edge ps) (broken_corner ps))) None ≡ None → rule_broken ps ≡ false
       go true p q = absurd (let z : ◌≡◌ {A = ℕ} 0 1 = cc in let f : ⊥ = omega arith in f)
       go false p q = p

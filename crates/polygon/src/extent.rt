@@ -2,13 +2,12 @@
 // not be written for that: its greatest x is the sum of the greatest of both, and so on for y, -x and -y.
 ghost use Rattle.std.specs.Prelude.{◌||◌, ◌≡◌, ◌^◌, ◌<◌, length};
 ghost use Rattle.plane.specs.Point.{points, ◌⊕◌};
-ghost use Rattle.plane.specs.Direction.{greater as direction_greater};
 ghost use Rattle.plane.specs.Refusal.{InRange};
 ghost use Rattle.polygon.specs.Point.{at, Small};
 ghost use Rattle.polygon.specs.Extent.{upper_of, is_out, Extends};
 
 use crate::point::Point;
-use crate::{corners, limits, point, rules};
+use crate::{corners, limits, point};
 
 // The greatest x and the greatest y of some corners, and the greatest -x and the greatest -y. Those of a mirror image
 // are the same two, exchanged.
@@ -27,12 +26,10 @@ pub fn extent_of(list: &[i32]) -> Extent
     let first = corners::corner_at(list, 0);
     let mut high = first;
     let mut low = point::opposite(first);
-    let mut i = 1;
-    while i < n {
+    for i in 1..n {
         let p = corners::corner_at(list, i);
         high = upper(high, p);
         low = upper(low, point::opposite(p));
-        i += 1;
     }
     Extent { high, low }
 }
@@ -43,16 +40,9 @@ fn upper(p: Point, q: Point) -> Point
     ensures { at result ≡ upper_of (at p) (at q) }
 {
     Point {
-        x: greater(p.x, q.x),
-        y: greater(p.y, q.y),
+        x: p.x.max(q.x),
+        y: p.y.max(q.y),
     }
-}
-
-// Returns the greater of two numbers.
-fn greater(x: i32, y: i32) -> i32
-    ensures { result ≡ direction_greater x y }
-{
-    if x <= y { y } else { x }
 }
 
 // Returns whether the sum of two shapes has a corner out of range.
@@ -62,9 +52,7 @@ pub fn is_far(e: Extent, f: Extent) -> bool
         × Small (2 ^ 21) (at f.low) }
     ensures { result ≡ (is_out (at e.high ⊕ at f.high) || is_out (at e.low ⊕ at f.low)) }
 {
-    let above = leaves(e.high, f.high);
-    let below = leaves(e.low, f.low);
-    rules::either(above, below)
+    leaves(e.high, f.high) || leaves(e.low, f.low)
 }
 
 // Returns whether a coordinate of the sum of two points is out of range.
@@ -74,5 +62,5 @@ fn leaves(p: Point, q: Point) -> bool
 {
     let x = p.x + q.x;
     let y = p.y + q.y;
-    rules::either(limits::outside(x), limits::outside(y))
+    limits::outside(x) || limits::outside(y)
 }

@@ -67,8 +67,5 @@ pub fn outside_part(z: i32) -> bool
 fn beyond(low: i32, high: i32, z: i32) -> bool
     ensures { result ≡ (lt_z z low || lt_z high z) }
 {
-    if z < low {
-        return true;
-    }
-    high < z
+    z < low || high < z
 }

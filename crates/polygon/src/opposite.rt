@@ -38,9 +38,7 @@ fn negate(list: &[i32], from: usize, n: usize, out: &mut [i32], to: usize)
     requires { (from + n ≤ length list.now) × (to + n ≤ length out.old) × InRange list.now }
     ensures { out.new ≡ paste out.old to (map neg_ℤ (drop from list.now)) n }
 {
-    let mut i = 0;
-    while i < n {
+    for i in 0..n {
         out[to + i] = -list[from + i];
-        i += 1;
     }
 }

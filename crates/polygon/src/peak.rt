@@ -10,13 +10,11 @@ pub fn top(list: &[i32]) -> usize
     requires { 0 < length (points list.now) }
     ensures { Peak (points list.now) result }
 {
-    let n = corners::count(list);
-    let mut top = 0;
-    while top + 1 < n {
+    let last = corners::count(list) - 1;
+    for top in 0..last {
         if !corners::precedes_at(list, top, top + 1) {
             return top;
         }
-        top += 1;
     }
-    top
+    last
 }

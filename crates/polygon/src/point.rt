@@ -39,7 +39,7 @@ pub fn cross(e: Point, f: Point) -> i64
     requires { Small (2 ^ 22) (at e) × Small (2 ^ 22) (at f) }
     ensures { result ≡ turn_cross (at e) (at f) }
 {
-    (e.x as i64) * (f.y as i64) - (e.y as i64) * (f.x as i64)
+    i64::from(e.x) * i64::from(f.y) - i64::from(e.y) * i64::from(f.x)
 }
 
 // The product u·x + v·y of a direction and a point: across the direction's left.
@@ -63,11 +63,5 @@ pub fn squared(p: Point, q: Point) -> i64
 pub fn precedes(a: Point, b: Point) -> bool
     ensures { result ≡ shape_precedes (at a) (at b) }
 {
-    if a.y < b.y {
-        return true;
-    }
-    if b.y < a.y {
-        return false;
-    }
-    a.x < b.x
+    a.y < b.y || a.y == b.y && a.x < b.x
 }

@@ -31,17 +31,11 @@ pub fn too_many_points(list: &[i32]) -> bool
     limits::exceeds_points(corners::count(list))
 }
 
-// Refusal 3: some coordinate is out of range. All are looked at, so that the loop has no second way out.
+// Refusal 3: some coordinate is out of range.
 pub fn some_outside(list: &[i32]) -> bool
     ensures { result ≡ some_outside list.now }
 {
-    let mut some = false;
-    let mut i = 0;
-    while i < list.len() {
-        some = either(some, limits::outside(list[i]));
-        i += 1;
-    }
-    some
+    list.iter().any(|z| limits::outside(*z))
 }
 
 // Whether one of the two holds.
@@ -55,13 +49,9 @@ pub fn either(x: bool, y: bool) -> bool
 fn equal_pair(list: &[i32]) -> bool
     ensures { result ≡ equal_pair (points list.now) }
 {
-    if corners::count(list) != 2 {
-        return false;
-    }
-    if corners::precedes_at(list, 0, 1) {
-        return false;
-    }
-    !corners::precedes_at(list, 1, 0)
+    corners::count(list) == 2
+        && !corners::precedes_at(list, 0, 1)
+        && !corners::precedes_at(list, 1, 0)
 }
 
 // The position after e on the way round n corners.
@@ -79,34 +69,28 @@ fn breaks_at(list: &[i32], edge: usize, corner: usize) -> bool
     ensures { result ≡ breaks (points list.now) edge corner }
 {
     let end = next(corners::count(list), edge);
-    if corner == edge {
-        return false;
-    }
-    if corner == end {
-        return false;
-    }
-    !(0 < corners::turn_at(list, edge, end, corner))
+    corner != edge && corner != end && corners::turn_at(list, edge, end, corner) <= 0
 }
 
 // Where refusal 4 finds the rules broken.
 #[derive(Clone, Copy)]
-pub enum Broken {
-    At { edge: usize, corner: usize },
-    Nowhere,
+pub struct Broken {
+    pub edge: usize,
+    pub corner: usize,
 }
 
 // The second part of refusal 4: the first edge, then the first corner, that breaks the left rule.
 // Ruled out: later corners only.
-fn left_break(list: &[i32]) -> Broken
+fn left_break(list: &[i32]) -> Option<Broken>
     requires { InRange list.now }
     ensures { result ≡ left_break (points list.now) }
 {
     let n = corners::count(list);
-    let mut found = Broken::Nowhere;
+    let mut found = None;
     'edges: for edge in 0..n {
         for corner in 0..n {
             if breaks_at(list, edge, corner) {
-                found = Broken::At { edge, corner };
+                found = Some(Broken { edge, corner });
                 break 'edges;
             }
         }
@@ -115,12 +99,12 @@ fn left_break(list: &[i32]) -> Broken
 }
 
 // Refusal 4: two equal corners in a list of two, at positions 0 and 1; otherwise where the left rule is broken.
-pub fn first_broken(list: &[i32]) -> Broken
+pub fn first_broken(list: &[i32]) -> Option<Broken>
     requires { InRange list.now }
     ensures { result ≡ broken (points list.now) }
 {
     if equal_pair(list) {
-        return Broken::At { edge: 0, corner: 1 };
+        return Some(Broken { edge: 0, corner: 1 });
     }
     left_break(list)
 }
@@ -130,12 +114,10 @@ pub fn bad_start(list: &[i32]) -> bool
     ensures { result ≡ bad_start (points list.now) }
 {
     let n = corners::count(list);
-    let mut c = 0;
-    while c < n {
+    for c in 0..n {
         if corners::precedes_at(list, c, 0) {
             return true;
         }
-        c += 1;
     }
     false
 }

@@ -1,183 +1,162 @@
 // One arm for each question: it asks the library, and `replies` prints what it is told.
-use crate::table::{Entry, Question};
-use crate::{readings, replies, table, walks};
+use crate::replies::Form;
+use crate::table::{Entry, OnLog, OnOne, OnPair, Question};
+use crate::{readings, replies, walks};
+use arrayvec::ArrayVec;
 use log_questions::books;
-use pair_questions::separators;
-use part_questions::walk;
+use pair_questions::{changes, reaches, separators};
 use polygon::limits::SHAPE_NUMBERS;
 use reply::Reply;
-use shape_questions::rings;
-use text::fields::{name, room};
-use text::{fields, output};
+use shape_questions::{boxing, rings};
+use std::io;
+use std::io::Write;
+use text::fields::Fields;
+use text::output;
 
 // A line has at most 65,536 characters, and a byte of a log two of them.
 const LOG: usize = 32768;
 
 // Asks the question of a line, and adds its answer, without a newline.
-pub fn ask(
-    rt: &(impl Print + Eprint),
-    out: &mut [u8],
-    filled: usize,
-    entry: Entry,
-    line: &[u8],
-    values: &[i32],
-    marks: &[usize],
-) -> usize {
-    let mut bytes = [0u8; LOG];
-    let buffer: &mut [u8] = &mut bytes;
-    let size = fields::log(line, entry.kinds, 0, buffer);
-    let mut others = [0u8; LOG];
-    let second: &mut [u8] = &mut others;
-    let count = fields::log(line, entry.kinds, 1, second);
-    let log: &mut [u8] = &mut buffer[0..size];
-    let run: &mut [u8] = &mut second[0..count];
-    let a = fields::field(values, marks, 0);
-    let b = fields::field(values, marks, 1);
-    let c = fields::field(values, marks, 2);
-    let d = fields::field(values, marks, 3);
-    add(rt, out, filled, entry, line, log, run, a, b, c, d)
+pub fn ask(out: &mut impl Write, entry: Entry, fields: &Fields) -> io::Result<()> {
+    let mut list = [0i32; SHAPE_NUMBERS];
+    let told = match entry.question {
+        Question::One(question) => told_of_one(question, fields, &mut list),
+        Question::Pair(question) => told_of_pair(question, fields, &mut list),
+        Question::Parts => return walks::parts(out, entry.form, fields),
+        Question::Log(question) => return ask_of_log(out, question, entry.form, fields),
+    };
+    replies::add(out, &told, entry.form, &list)
 }
 
-// Asks the question of the fields that a line holds, of which the log, a second run of bytes, readings and floors are
-// no numbers. What it writes goes to an output of as many numbers as the room says.
-fn add(
-    rt: &(impl Print + Eprint),
-    out: &mut [u8],
-    filled: usize,
-    entry: Entry,
-    line: &[u8],
+// Asks a question on a log. The log that an addition leaves follows the answer, after a bar.
+fn ask_of_log(
+    out: &mut impl Write,
+    question: OnLog,
+    form: Form,
+    fields: &Fields,
+) -> io::Result<()> {
+    let mut log = ArrayVec::<u8, LOG>::new();
+    let mut run = ArrayVec::<u8, LOG>::new();
+    fields.each[0].log(&mut log);
+    fields.each[1].log(&mut run);
+    let mut list = [0i32; SHAPE_NUMBERS];
+    let told = told_of_log(
+        question,
+        fields,
+        log.as_mut_slice(),
+        run.as_mut_slice(),
+        &mut list,
+    );
+    replies::add(out, &told, form, &list)?;
+    match question {
+        OnLog::Add if told.number == 0 => add_log(out, log.as_slice()),
+        OnLog::Pack if told.number == 0 => add_log(out, run.as_slice()),
+        _ => Ok(()),
+    }
+}
+
+// Adds a log after a bar.
+fn add_log(out: &mut impl Write, log: &[u8]) -> io::Result<()> {
+    write!(out, " | ")?;
+    output::bytes(out, log)
+}
+
+// Returns as many numbers of a list as a room says, at most all.
+fn lend(list: &mut [i32], room: usize) -> &mut [i32] {
+    let end = room.min(list.len());
+    &mut list[..end]
+}
+
+// Asks the library about one shape. What is written goes to the front of the list, if the room suffices.
+fn told_of_one(question: OnOne, fields: &Fields, list: &mut [i32]) -> Reply {
+    let [first, second, _, _] = &fields.each;
+    let (a, f) = (first.numbers, first.floor());
+    let out = lend(list, second.room());
+    match question {
+        OnOne::Judge => reply::of(shape_questions::judge(a, f)),
+        OnOne::Furthest => {
+            let (u, v) = second.direction();
+            reply::of(shape_questions::furthest(a, f, u, v))
+        }
+        OnOne::Mirror => reply::of(shape_questions::mirror(a, f, out)),
+        OnOne::Sweep => reply::of(shape_questions::sweep(a, f, out)),
+        OnOne::Ring => reply::of(rings::ring(a, f, out)),
+        OnOne::Length => reply::of(shape_questions::length(a, f)),
+        OnOne::Area => reply::of(shape_questions::area(a, f)),
+        OnOne::Width => reply::of(shape_questions::width(a, f)),
+        OnOne::Box => reply::of(boxing::least_box(a, f)),
+        OnOne::Tablet => readings::tablet(first, second),
+    }
+}
+
+// Asks the library about two shapes, likewise.
+fn told_of_pair(question: OnPair, fields: &Fields, list: &mut [i32]) -> Reply {
+    let [first, second, third, fourth] = &fields.each;
+    let (a, f) = (first.numbers, first.floor());
+    let (b, g) = (second.numbers, second.floor());
+    let (u, v) = third.direction();
+    match question {
+        OnPair::Sum => reply::of(pair_questions::sum(a, f, b, g, lend(list, third.room()))),
+        OnPair::Part => {
+            let out = lend(list, fourth.count(1));
+            reply::of(walks::part(first, second, third, fourth, out))
+        }
+        OnPair::Merge => {
+            let out = lend(list, third.room());
+            reply::of(pair_questions::merge(a, f, b, g, out))
+        }
+        OnPair::Grow => {
+            let out = lend(list, third.room());
+            reply::of(pair_questions::grow(a, f, b, g, out))
+        }
+        OnPair::Relation => reply::of(pair_questions::relation(a, f, b, g)),
+        OnPair::Inside => reply::of(pair_questions::inside(a, f, b, g)),
+        OnPair::Offer => reply::of(separators::offer(a, f, b, g, u, v)),
+        OnPair::Find => reply::of(separators::find(a, f, b, g)),
+        OnPair::Clearance => reply::of(pair_questions::clearance(a, f, b, g)),
+        OnPair::Greatest => reply::of(reaches::greatest(a, f, b, g)),
+        OnPair::Excess => reply::of(changes::excess(a, f, b, g)),
+        OnPair::Tangents => reply::of(pair_questions::tangents(a, f, b, g)),
+        OnPair::Passage => {
+            let (c, h) = (third.numbers, third.floor());
+            reply::of(pair_questions::passage(a, f, b, g, c, h))
+        }
+        OnPair::Contact => {
+            let (s, t) = fourth.direction();
+            reply::of(drive_questions::contact(a, f, b, g, u, v, s, t))
+        }
+    }
+}
+
+// Asks the library about a log, likewise. A packing writes the second run of bytes.
+fn told_of_log(
+    question: OnLog,
+    fields: &Fields,
     log: &mut [u8],
     run: &mut [u8],
-    a: &[i32],
-    b: &[i32],
-    c: &[i32],
-    d: &[i32],
-) -> usize {
-    let mut numbers = [0i32; SHAPE_NUMBERS];
-    let shape: &mut [i32] = &mut numbers;
-    let question = entry.question;
-    let form = table::form_of(question);
-    let end = fields::lent(room_of(question, b, c, d), shape);
-    let told = told(question, line, log, run, a, b, c, d, &mut shape[0..end]);
-    let said = replies::add(rt, out, filled, told, form, shape);
-    if told.number != 0 {
-        return said;
-    }
-    match question {
-        Question::Parts => {
-            let walk = walks::walk_of(told.values[0], told.values[1], told.values[2]);
-            walks::calls(rt, out, said, walk, fields::floor(line, 0), a, b, c)
-        }
-        Question::LogAdd => {
-            let begun = output::word(rt, out, said, b" | ");
-            output::bytes(rt, out, begun, log)
-        }
-        Question::LogPack => {
-            let begun = output::word(rt, out, said, b" | ");
-            output::bytes(rt, out, begun, run)
-        }
-        _ => said,
-    }
-}
-
-// Returns the room of a question that writes a shape; any number for the others.
-fn room_of(question: Question, b: &[i32], c: &[i32], d: &[i32]) -> usize {
-    match question {
-        Question::Mirror => fields::room(b),
-        Question::Sweep => fields::room(b),
-        Question::Ring => fields::room(b),
-        Question::Part => fields::count(d, 1),
-        _ => fields::room(c),
-    }
-}
-
-// Asks the library.
-fn told(
-    question: Question,
-    line: &[u8],
-    log: &mut [u8],
-    run: &mut [u8],
-    a: &[i32],
-    b: &[i32],
-    c: &[i32],
-    d: &[i32],
-    out: &mut [i32],
+    list: &mut [i32],
 ) -> Reply {
-    let f = fields::floor(line, 0);
-    let g = fields::floor(line, 1);
-    let h = fields::floor(line, 2);
+    let [_, second, third, fourth] = &fields.each;
+    let (b, g) = (second.numbers, second.floor());
+    let out = lend(list, third.room());
     match question {
-        Question::Judge => reply::of_answer(shape_questions::judge(a, f)),
-        Question::Furthest => reply::of_furthest(shape_questions::furthest(a, f, u(b), v(b))),
-        Question::Mirror => reply::of_answer(shape_questions::mirror(a, f, out)),
-        Question::Sum => reply::of_answer(pair_questions::sum(a, f, b, g, out)),
-        Question::Parts => reply::of_begun(walk::begin(a, f, b, g)),
-        Question::Part => reply::of_part(walks::part(a, f, b, g, c, d, out)),
-        Question::Merge => reply::of_answer(pair_questions::merge(a, f, b, g, out)),
-        Question::Grow => reply::of_answer(pair_questions::grow(a, f, b, g, out)),
-        Question::Sweep => reply::of_answer(shape_questions::sweep(a, f, out)),
-        Question::Ring => reply::of_answer(rings::ring(a, f, out)),
-        Question::Length => reply::of_length(shape_questions::length(a, f)),
-        Question::Area => reply::of_area(shape_questions::area(a, f)),
-        Question::Width => reply::of_width(shape_questions::width(a, f)),
-        Question::Box => reply::of_box(shape_questions::boxing::least_box(a, f)),
-        Question::Relation => reply::of_relation(pair_questions::relation(a, f, b, g)),
-        Question::Inside => reply::of_inside(pair_questions::inside(a, f, b, g)),
-        Question::Offer => reply::of_offer(separators::offer(a, f, b, g, u(c), v(c))),
-        Question::Find => reply::of_separator(separators::find(a, f, b, g)),
-        Question::Clearance => reply::of_clearance(pair_questions::clearance(a, f, b, g)),
-        Question::Greatest => reply::of_greatest(pair_questions::reaches::greatest(a, f, b, g)),
-        Question::Excess => reply::of_excess(pair_questions::changes::excess(a, f, b, g)),
-        Question::Tangents => reply::of_tangents(pair_questions::tangents(a, f, b, g)),
-        Question::Passage => reply::of_passage(pair_questions::passage(a, f, b, g, c, h)),
-        Question::Contact => {
-            let met = drive_questions::contact(a, f, b, g, u(c), v(c), u(d), v(d));
-            reply::of_contact(met)
+        OnLog::Read => reply::of(log_questions::log_read(log, second.name(), out)),
+        OnLog::Add => {
+            let (c, h) = (third.numbers, third.floor());
+            let added = log_questions::log_add(log, second.name(), h, c, fourth.room());
+            reply::of_addition(added)
         }
-        Question::Tablet => readings::tablet(line),
-        _ => of_log(question, line, log, run, b, c, d, out),
+        OnLog::Entry => reply::of(books::log_entry(log, second.count(0), out)),
+        OnLog::Nearest => {
+            let near = books::log_nearest(log, b, g, third.but() as usize);
+            reply::of(near)
+        }
+        OnLog::Gap => reply::of(books::log_gap(log, b, g)),
+        OnLog::Contact => {
+            let (u, v) = third.direction();
+            let (s, t) = fourth.direction();
+            reply::of(drive_questions::log_contact(log, b, g, u, v, s, t))
+        }
+        OnLog::Pack => reply::of_addition(books::log_pack(log, run, third.but(), fourth.room())),
     }
-}
-
-// Asks the library about a log.
-fn of_log(
-    question: Question,
-    line: &[u8],
-    log: &mut [u8],
-    run: &mut [u8],
-    b: &[i32],
-    c: &[i32],
-    d: &[i32],
-    out: &mut [i32],
-) -> Reply {
-    let g = fields::floor(line, 1);
-    let h = fields::floor(line, 2);
-    match question {
-        Question::LogRead => reply::of_answer(log_questions::log_read(log, name(b), out)),
-        Question::LogAdd => reply::of_addition(log_questions::log_add(log, name(b), h, c, room(d))),
-        Question::LogEntry => reply::of_entry(books::log_entry(log, fields::count(b, 0), out)),
-        Question::LogNearest => {
-            let near = books::log_nearest(log, b, g, fields::but(c) as usize);
-            reply::of_nearest(near)
-        }
-        Question::LogGap => reply::of_gap(books::log_gap(log, b, g)),
-        Question::LogContact => {
-            let met = drive_questions::log_contact(log, b, g, u(c), v(c), u(d), v(d));
-            reply::of_drive(met)
-        }
-        _ => {
-            let packed = books::log_pack(log, run, fields::but(c), room(d));
-            reply::of_addition(packed)
-        }
-    }
-}
-
-// Returns the first part of a direction.
-fn u(direction: &[i32]) -> i32 {
-    fields::number(direction, 0)
-}
-
-// Returns the second part of a direction.
-fn v(direction: &[i32]) -> i32 {
-    fields::number(direction, 1)
 }

@@ -10,17 +10,16 @@ mod table;
 mod walks;
 
 use std::env::FillError;
-use std::io::Input;
+use std::io;
+use std::io::{Read, Write};
 use std::rt::Env;
-use text::lines::Reading;
+use table::Entry;
+use text::fields::Fields;
+use text::lines::Lines;
+use text::numbers::Numbers;
 use text::reasons::Reason;
-use text::{fields, lines, output, reasons, words};
-
-// How many numbers the fields of a line hold together, at most.
-const NUMBERS: usize = 16384;
-
-// How many characters a line has, at most, and how many bytes are read or written at once.
-const CHARACTERS: usize = 65536;
+use text::standard::Failure;
+use text::{fields, output, words};
 
 fn main(rt: HostRuntime) {
     if has_arguments(&rt) {
@@ -29,73 +28,63 @@ fn main(rt: HostRuntime) {
         let _ = rt.eprintln(usage);
         return;
     }
-    let mut chunk = [0u8; CHARACTERS];
-    let mut line = [0u8; CHARACTERS];
-    let mut values = [0i32; NUMBERS];
-    let mut out = [0u8; CHARACTERS];
-    answer_all(&rt, &mut out, &mut chunk, &mut line, &mut values);
+    if let Err(failure) = run(&rt) {
+        let _ = rt.eprintln(failure);
+    }
 }
 
 // Whether the program is given arguments besides its own name.
 fn has_arguments(rt: &impl Env) -> bool {
-    match rt.arg(1, &mut [0u8; 0]) {
-        Err(FillError::NotPresent) => false,
-        _ => true,
-    }
+    !matches!(rt.arg(1, &mut [0u8; 0]), Err(FillError::NotPresent))
 }
 
-// Answers every line. A proved loop has to end, so this one counts its turns down, one a byte, from a number that no
-// run uses up.
-fn answer_all(
-    rt: &(impl Input + Print + Eprint),
-    out: &mut [u8],
-    chunk: &mut [u8],
-    line: &mut [u8],
-    values: &mut [i32],
-) {
-    let mut reading = lines::begin();
-    let mut turns = u64::MAX;
-    while turns > 0 && !reading.last {
-        reading = lines::take(rt, reading, out, chunk, line);
-        reading = answer_whole(rt, reading, out, line, values);
-        turns -= 1;
-    }
-    output::flush(rt, out, reading.filled);
+// Answers the lines of standard input on standard output.
+fn run(rt: &(impl Input + Print + AllocGlobal)) -> Result<(), Failure> {
+    let mut lines = Lines::new(rt.alloc(), rt.reader())?;
+    let mut out = output::gather(rt.alloc(), io::writer(rt))?;
+    let ended = answer_all(&mut lines, &mut out);
+    // What could not be written is not tried again.
+    let _ = out.into_parts();
+    ended
 }
 
-// Answers the line at hand, if it is whole.
-fn answer_whole(
-    rt: &(impl Print + Eprint),
-    reading: Reading,
-    out: &mut [u8],
-    line: &[u8],
-    values: &mut [i32],
-) -> Reading {
-    if !reading.whole {
-        return reading;
+// Answers every line. A proved loop has to end, so this one counts its turns, up to a number that no run uses up.
+fn answer_all(lines: &mut Lines<impl Read + Drop>, out: &mut impl Write) -> Result<(), Failure> {
+    let mut numbers = Numbers::new();
+    for _ in 0..u64::MAX {
+        if !lines.advance(out)? {
+            break;
+        }
+        answer(out, lines.text(), &mut numbers).map_err(Failure::Write)?;
     }
-    let text = lines::text(reading, line);
-    let end = answer(rt, out, reading.filled, reading.too_long, text, values);
-    lines::answered(reading, output::word(rt, out, end, b"\n"))
+    out.flush().map_err(Failure::Write)
 }
 
-// Adds the answer of a line, without its newline.
+// Adds the answer of a line.
 fn answer(
-    rt: &(impl Print + Eprint),
-    out: &mut [u8],
-    filled: usize,
-    too_long: bool,
-    line: &[u8],
-    values: &mut [i32],
-) -> usize {
-    if too_long {
-        return reasons::unreadable(rt, out, filled, Reason::LineTooLong);
+    out: &mut impl Write,
+    line: Result<&[u8], Reason>,
+    numbers: &mut Numbers,
+) -> io::Result<()> {
+    match read(line, numbers) {
+        Ok(asked) => ask::ask(out, asked.entry, &asked.fields)?,
+        Err(reason) => write!(out, "{reason}")?,
     }
-    let entry = table::look_up(words::trimmed(words::piece(line, 0)));
-    let mut marks = [0usize; fields::MARKS];
-    let reason = fields::read(line, entry.kinds, values, &mut marks);
-    match reason {
-        Reason::Nothing => ask::ask(rt, out, filled, entry, line, values, &marks),
-        _ => reasons::unreadable(rt, out, filled, reason),
-    }
+    writeln!(out)
+}
+
+// What a line asks.
+#[derive(Clone, Copy)]
+struct Asked<'a> {
+    entry: Entry,
+    fields: Fields<'a>,
+}
+
+// Reads a question, or says why the line is none.
+fn read<'a>(line: Result<&'a [u8], Reason>, numbers: &'a mut Numbers) -> Result<Asked<'a>, Reason> {
+    let line = line?;
+    let word = words::trimmed(words::piece(line, 0));
+    let entry = table::look_up(word).ok_or(Reason::UnknownWord)?;
+    let fields = fields::read(line, entry.kinds, numbers)?;
+    Ok(Asked { entry, fields })
 }

@@ -3,11 +3,11 @@ ghost use Rattle.std.specs.Prelude.{◌≡◌};
 ghost use Rattle.std.specs.Float.{binary64};
 ghost use Rattle.std.specs.Float.Ieee.{nan_bits};
 
-use answers::Tablet;
 use reply::Reply;
 use tablet::reading::Reading;
-use text::{fields, readings};
-use wire::refusals;
+use text::fields::Field;
+use text::readings;
+use wire::numbers;
 
 // The weight of the sign, of the exponent, and the exponent of an infinity or a NaN.
 const SIGN: u64 = 0x8000000000000000;
@@ -16,53 +16,40 @@ const EXPONENT: u64 = 0x10000000000000;
 
 const ONES: u64 = 2047;
 
-// Asks for the corner of the readings of a line's two fields. The values told are the bits of the doubles that go back.
-pub fn tablet(line: &[u8]) -> Reply {
-    let x = reading(fields::reading(line, 0));
-    let y = reading(fields::reading(line, 1));
-    match tablet_questions::tablet(x, y) {
-        Tablet::Corner { sent, x: _, y: _ } => Reply {
-            number: 0,
-            carried: [0, 0, 0],
-            count: 2,
-            values: [pattern(sent.x), pattern(sent.y), 0, 0, 0, 0, 0, 0, 0],
-        },
-        Tablet::No(refusal) => refusals::of_unread(refusal),
+// Asks for the corner of the readings of two fields. The values told are the bits of the doubles that go back.
+pub fn tablet(x: &Field, y: &Field) -> Reply {
+    match tablet_questions::tablet(reading(x), reading(y)) {
+        Ok(corner) => numbers::answered([pattern(corner.sent.x), pattern(corner.sent.y)]),
+        Err(refusal) => Reply::from(refusal),
     }
 }
 
-// Returns the reading of a unit and bits. (A line whose fields are no readings is not asked.)
-fn reading(text: readings::Reading) -> Reading {
-    match text {
-        readings::Reading::Millimetres(bits) => Reading::Millimetres(double(bits)),
-        readings::Reading::Eighths(bits) => Reading::Eighths(double(bits)),
-        readings::Reading::Nothing => Reading::Millimetres(0.0),
+// Returns the reading that a field holds. (A line whose fields are no readings is not asked.)
+fn reading(field: &Field) -> Reading {
+    match field.reading() {
+        Some(readings::Reading::Millimetres(bits)) => Reading::Millimetres(double(bits)),
+        Some(readings::Reading::Eighths(bits)) => Reading::Eighths(double(bits)),
+        None => Reading::Millimetres(0.0),
     }
 }
 
-// Returns the double of a bit pattern. The language has no bits of a NaN: one is made by a division.
+// Returns the double of a bit pattern. The language has no bits of a NaN.
 fn double(bits: u64) -> f64 {
     if is_nan(bits) {
-        let zero = 0.0;
-        return zero / zero;
+        f64::NAN
+    } else {
+        f64::from_bits(bits)
     }
-    f64::from_bits(bits)
 }
 
 // Whether a bit pattern is a NaN's.
 fn is_nan(bits: u64) -> bool
     ensures { result ≡ nan_bits binary64 bits }
 {
-    if bits % SIGN / EXPONENT == ONES {
-        return bits % EXPONENT != 0;
-    }
-    false
+    bits % SIGN / EXPONENT == ONES && bits % EXPONENT != 0
 }
 
-// Returns the bit pattern of a double. (None that goes back is a NaN, which alone differs from itself.)
+// Returns the bit pattern of a double. (None that goes back is a NaN.)
 fn pattern(v: f64) -> u64 {
-    if v == v {
-        return f64::to_bits(v);
-    }
-    0
+    if v.is_nan() { 0 } else { v.to_bits() }
 }

@@ -1,5 +1,7 @@
 // The one printer of replies, without their newlines.
 use reply::Reply;
+use std::io;
+use std::io::Write;
 use text::output;
 
 // How an answer is written.
@@ -31,181 +33,109 @@ pub enum Form {
 }
 
 // Adds a reply. The corners that an answer wrote are at the front of the list.
-pub fn add(
-    rt: &(impl Print + Eprint),
-    out: &mut [u8],
-    filled: usize,
-    told: Reply,
-    form: Form,
-    list: &[i32],
-) -> usize {
+pub fn add(out: &mut impl Write, told: &Reply, form: Form, list: &[i32]) -> io::Result<()> {
     if told.number != 0 {
-        return refusal(rt, out, filled, told, form);
+        return refusal(out, told, form);
     }
-    let head = heading(rt, out, filled, told, form);
+    let [first, second, third, ..] = told.values;
+    head(out, form, first, second, third)?;
     match form {
-        Form::Numbers => values(rt, out, head, told, 0),
+        Form::Addition | Form::Bits => Ok(()),
+        Form::Call => output::numbers(out, front(list, first)),
+        Form::Numbers => values(out, told, 0),
         Form::Shape => {
-            let end = values(rt, out, head, told, 0);
-            let bar = output::word(rt, out, end, b" |");
-            output::numbers(rt, out, bar, front(list, value(told, 0)))
+            values(out, told, 0)?;
+            write!(out, " |")?;
+            output::numbers(out, front(list, first))
         }
-        Form::Addition => head,
-        Form::Bits => {
-            let end = output::bits(rt, out, head, value(told, 0));
-            output::bits(rt, out, end, value(told, 1))
-        }
-        Form::Nearest => values(rt, out, head, told, 2),
-        Form::Gap => values(rt, out, head, told, 3),
-        Form::Begun => values(rt, out, head, told, 3),
-        Form::Call => output::numbers(rt, out, head, front(list, value(told, 0))),
-        _ => values(rt, out, head, told, 1),
+        Form::Relation | Form::YesNo | Form::Direction | Form::Clearance => values(out, told, 1),
+        Form::Excess | Form::Passage | Form::Contact => values(out, told, 1),
+        Form::Nearest => values(out, told, 2),
+        Form::Gap | Form::Begun => values(out, told, 3),
     }
 }
 
 // Adds `ok` and the word of the first value, if it is one, or of the one after the names; of a call the first value
 // alone.
-fn heading(
-    rt: &(impl Print + Eprint),
-    out: &mut [u8],
-    filled: usize,
-    told: Reply,
-    form: Form,
-) -> usize {
-    let first = value(told, 0);
+fn head(out: &mut impl Write, form: Form, first: u64, second: u64, third: u64) -> io::Result<()> {
     match form {
-        Form::Relation => relation(rt, out, filled, first),
-        Form::YesNo => either(rt, out, filled, first, b"ok no", b"ok yes"),
-        Form::Direction => either(rt, out, filled, first, b"ok none", b"ok"),
-        Form::Clearance => {
-            let begun = output::word(rt, out, filled, b"ok");
-            clearance(rt, out, begun, first)
-        }
-        Form::Nearest => {
-            let name = output::labelled(rt, out, filled, b"ok ", first);
-            clearance(rt, out, name, value(told, 1))
-        }
-        Form::Gap => {
-            let name = output::labelled(rt, out, filled, b"ok ", first);
-            let other = output::labelled(rt, out, name, b" ", value(told, 1));
-            clearance(rt, out, other, value(told, 2))
-        }
-        Form::Excess => excess(rt, out, filled, first),
-        Form::Passage => either(rt, out, filled, first, b"ok blocked", b"ok"),
-        Form::Contact => either(rt, out, filled, first, b"ok never", b"ok"),
-        Form::Addition => either(rt, out, filled, first, b"ok cut", b"ok finished"),
-        Form::Call => output::labelled(rt, out, filled, b"", first),
-        _ => output::word(rt, out, filled, b"ok"),
+        Form::Relation => write!(out, "ok {}", relation(first)),
+        Form::YesNo => write!(out, "ok {}", either(first, "no", "yes")),
+        Form::Direction => write!(out, "{}", either(first, "ok none", "ok")),
+        Form::Clearance => write!(out, "ok {}", clearance(first)),
+        Form::Nearest => write!(out, "ok {first} {}", clearance(second)),
+        Form::Gap => write!(out, "ok {first} {second} {}", clearance(third)),
+        Form::Excess => write!(out, "ok {}", excess(first)),
+        Form::Passage => write!(out, "{}", either(first, "ok blocked", "ok")),
+        Form::Contact => write!(out, "{}", either(first, "ok never", "ok")),
+        Form::Addition => write!(out, "ok {}", either(first, "cut", "finished")),
+        Form::Bits => write!(out, "ok 0x{first:016x} 0x{second:016x}"),
+        Form::Call => write!(out, "{first}"),
+        Form::Numbers | Form::Shape | Form::Begun => write!(out, "ok"),
     }
 }
 
-// Adds how two shapes relate to each other.
-fn relation(rt: &(impl Print + Eprint), out: &mut [u8], filled: usize, value: u64) -> usize {
+// Returns how two shapes relate to each other.
+fn relation(value: u64) -> &'static str {
     match value {
-        0 => output::word(rt, out, filled, b"ok apart"),
-        1 => output::word(rt, out, filled, b"ok touching"),
-        _ => output::word(rt, out, filled, b"ok overlapping"),
+        0 => "apart",
+        1 => "touching",
+        _ => "overlapping",
     }
 }
 
-// Adds one text for 0 and another for 1.
-fn either(
-    rt: &(impl Print + Eprint),
-    out: &mut [u8],
-    filled: usize,
-    value: u64,
-    none: &[u8],
-    one: &[u8],
-) -> usize {
-    if value == 0 {
-        output::word(rt, out, filled, none)
-    } else {
-        output::word(rt, out, filled, one)
-    }
+// Returns one text for 0 and another for 1.
+fn either(value: u64, none: &'static str, one: &'static str) -> &'static str {
+    if value == 0 { none } else { one }
 }
 
-// Adds of what the nearest points are, corners and edges; 0 if the shapes are not apart.
-fn clearance(rt: &(impl Print + Eprint), out: &mut [u8], filled: usize, value: u64) -> usize {
+// Returns of what the nearest points are, corners and edges; 0 if the shapes are not apart.
+fn clearance(value: u64) -> &'static str {
     match value {
-        0 => output::word(rt, out, filled, b" 0"),
-        1 => output::word(rt, out, filled, b" cc"),
-        2 => output::word(rt, out, filled, b" ce"),
-        _ => output::word(rt, out, filled, b" ec"),
+        0 => "0",
+        1 => "cc",
+        2 => "ce",
+        _ => "ec",
     }
 }
 
-// Adds of what the furthest corner is nearest to, a corner or an edge; inside if the new shape reaches nowhere further.
-fn excess(rt: &(impl Print + Eprint), out: &mut [u8], filled: usize, value: u64) -> usize {
+// Returns of what the furthest corner is nearest to, a corner or an edge; inside if the new shape reaches nowhere
+// further.
+fn excess(value: u64) -> &'static str {
     match value {
-        0 => output::word(rt, out, filled, b"ok inside"),
-        1 => output::word(rt, out, filled, b"ok cc"),
-        _ => output::word(rt, out, filled, b"ok ce"),
+        0 => "inside",
+        1 => "cc",
+        _ => "ce",
     }
 }
 
-// Adds the values from a position on, and the last of them as the floor.
-fn values(
-    rt: &(impl Print + Eprint),
-    out: &mut [u8],
-    filled: usize,
-    told: Reply,
-    from: usize,
-) -> usize {
-    let mut end = filled;
-    let mut i = from;
-    while i < 8 && (i as u64) + 1 < told.count {
-        end = output::signed(rt, out, end, value(told, i));
-        i += 1;
+// Adds the values from a position on, and the last of them as the floor. A value is signed, and given as its 64 bits.
+fn values(out: &mut impl Write, told: &Reply, from: usize) -> io::Result<()> {
+    let count = told.count.min(9) as usize;
+    if let Some((floor, values)) = told.values.get(from..count).unwrap_or(&[]).split_last() {
+        for value in values {
+            write!(out, " {}", value.cast_signed())?;
+        }
+        write!(out, " @{floor}")?;
     }
-    output::labelled(rt, out, end, b" @", value(told, i))
-}
-
-// Returns value i; 0 if there is none.
-fn value(told: Reply, i: usize) -> u64 {
-    if i < 9 { told.values[i] } else { 0 }
+    Ok(())
 }
 
 // Returns the first corners of a list, two numbers each; all if it has fewer.
 fn front(list: &[i32], count: u64) -> &[i32] {
-    let corners = count as usize;
-    if corners <= list.len() / 2 {
-        let end = corners * 2;
-        &list[0..end]
-    } else {
-        list
-    }
+    let corners = (list.len() / 2).min(count as usize);
+    &list[..2 * corners]
 }
 
 // Adds a refusal: its number, and what it carries.
-fn refusal(
-    rt: &(impl Print + Eprint),
-    out: &mut [u8],
-    filled: usize,
-    told: Reply,
-    form: Form,
-) -> usize {
-    let end = output::labelled(rt, out, filled, b"no ", told.number);
-    if told.count == 0 {
-        return end;
+fn refusal(out: &mut impl Write, told: &Reply, form: Form) -> io::Result<()> {
+    let [first, edge, corner] = told.carried;
+    write!(out, "no {}", told.number)?;
+    match (form, told.count) {
+        (_, 0) => Ok(()),
+        (Form::Bits, _) => write!(out, " part {}", if first == 1 { "x" } else { "y" }),
+        _ if told.number == 15 => write!(out, " place {first}"),
+        (_, 1) => write!(out, " shape {first}"),
+        _ => write!(out, " shape {first} edge {edge} corner {corner}"),
     }
-    if let Form::Bits = form {
-        return part(rt, out, end, told.carried[0]);
-    }
-    if told.number == 15 {
-        return output::labelled(rt, out, end, b" place ", told.carried[0]);
-    }
-    let shape = output::labelled(rt, out, end, b" shape ", told.carried[0]);
-    if told.count == 1 {
-        return shape;
-    }
-    let edge = output::labelled(rt, out, shape, b" edge ", told.carried[1]);
-    output::labelled(rt, out, edge, b" corner ", told.carried[2])
-}
-
-// Adds the part of a corner.
-fn part(rt: &(impl Print + Eprint), out: &mut [u8], filled: usize, part: u64) -> usize {
-    if part == 1 {
-        return output::word(rt, out, filled, b" part x");
-    }
-    output::word(rt, out, filled, b" part y")
 }

@@ -1,24 +1,40 @@
-// The table of questions: a row says a question's word and the kinds of its fields.
+// The table of questions: a row says a question's word, the kinds of its fields, and how its answer is written.
+use self::Question::{Log, One, Pair};
 use crate::replies::Form;
-use text::fields;
+use text::fields::Kind;
 
 // What can be asked.
 #[derive(Clone, Copy)]
 pub enum Question {
+    One(OnOne),
+    Pair(OnPair),
+    // The calls of a sum in parts.
+    Parts,
+    Log(OnLog),
+}
+
+// The questions on one shape, and that on a corner's readings.
+#[derive(Clone, Copy)]
+pub enum OnOne {
     Judge,
     Furthest,
     Mirror,
-    Sum,
-    Parts,
-    Part,
-    Merge,
-    Grow,
     Sweep,
     Ring,
     Length,
     Area,
     Width,
     Box,
+    Tablet,
+}
+
+// The questions on two shapes, or on a third between them.
+#[derive(Clone, Copy)]
+pub enum OnPair {
+    Sum,
+    Part,
+    Merge,
+    Grow,
     Relation,
     Inside,
     Offer,
@@ -29,158 +45,116 @@ pub enum Question {
     Tangents,
     Passage,
     Contact,
-    Tablet,
-    LogRead,
-    LogAdd,
-    LogEntry,
-    LogNearest,
-    LogGap,
-    LogContact,
-    LogPack,
 }
 
-// What a word asks: a question, and the kinds of its fields.
+// The questions on a log.
+#[derive(Clone, Copy)]
+pub enum OnLog {
+    Read,
+    Add,
+    Entry,
+    Nearest,
+    Gap,
+    Contact,
+    Pack,
+}
+
+// What a word asks: a question, the kinds of its fields, and how its answer is written.
 #[derive(Clone, Copy)]
 pub struct Entry {
     pub question: Question,
-    pub kinds: u64,
+    pub kinds: &'static [Kind],
+    pub form: Form,
 }
 
-// The kinds of one field, of two, of three and of four, the first lowest.
-const ONE: u64 = fields::SHAPE;
+// A word, and what it asks.
+struct Row(&'static str, Question, &'static [Kind], Form);
 
-const AIMED: u64 = ONE + 16 * fields::DIRECTION;
+// The kinds of the fields of one shape, of two and of three.
+const ONE: &[Kind] = &[Kind::Shape];
 
-const WRITTEN: u64 = ONE + 16 * fields::ROOM;
+const AIMED: &[Kind] = &[Kind::Shape, Kind::Direction];
 
-const PAIR: u64 = ONE + 16 * fields::SHAPE;
+const WRITTEN: &[Kind] = &[Kind::Shape, Kind::Room];
 
-const THREE: u64 = PAIR + 256 * fields::SHAPE;
+const PAIR: &[Kind] = &[Kind::Shape, Kind::Shape];
 
-const PAIR_WRITTEN: u64 = PAIR + 256 * fields::ROOM;
+const THREE: &[Kind] = &[Kind::Shape, Kind::Shape, Kind::Shape];
 
-const PAIR_AIMED: u64 = PAIR + 256 * fields::DIRECTION;
+const PAIR_WRITTEN: &[Kind] = &[Kind::Shape, Kind::Shape, Kind::Room];
 
-const PAIR_DRIVEN: u64 = PAIR_AIMED + 4096 * fields::DIRECTION;
+const PAIR_AIMED: &[Kind] = &[Kind::Shape, Kind::Shape, Kind::Direction];
 
-const PAIR_CALLED: u64 = PAIR + 256 * fields::CALLS;
+const PAIR_DRIVEN: &[Kind] = &[Kind::Shape, Kind::Shape, Kind::Direction, Kind::Direction];
 
-const PAIR_WALKED: u64 = PAIR + 256 * fields::WALK + 4096 * fields::CALL;
+const PAIR_CALLED: &[Kind] = &[Kind::Shape, Kind::Shape, Kind::Calls];
 
-const READINGS: u64 = fields::READING + 16 * fields::READING;
+const PAIR_WALKED: &[Kind] = &[Kind::Shape, Kind::Shape, Kind::Walk, Kind::Call];
 
-const NAMED: u64 = fields::BYTES + 16 * fields::NAME;
+const READINGS: &[Kind] = &[Kind::Reading, Kind::Reading];
 
-const LOG_READ: u64 = NAMED + 256 * fields::ROOM;
+// The kinds of the fields of a log.
+const LOG_READ: &[Kind] = &[Kind::Bytes, Kind::Name, Kind::Room];
 
-const LOG_ADDED: u64 = NAMED + 256 * fields::SHAPE + 4096 * fields::ROOM;
+const LOG_ADDED: &[Kind] = &[Kind::Bytes, Kind::Name, Kind::Shape, Kind::Room];
 
-const LOG_LISTED: u64 = fields::BYTES + 16 * fields::POSITION + 256 * fields::ROOM;
+const LOG_LISTED: &[Kind] = &[Kind::Bytes, Kind::Position, Kind::Room];
 
-const LOG_AROUND: u64 = fields::BYTES + 16 * fields::SHAPE;
+const LOG_AROUND: &[Kind] = &[Kind::Bytes, Kind::Shape];
 
-const LOG_DRIVEN: u64 = LOG_AROUND + 256 * fields::DIRECTION + 4096 * fields::DIRECTION;
+const LOG_DRIVEN: &[Kind] = &[Kind::Bytes, Kind::Shape, Kind::Direction, Kind::Direction];
 
-const LOG_NEAREST: u64 = LOG_AROUND + 256 * fields::EXCEPTED;
+const LOG_NEAREST: &[Kind] = &[Kind::Bytes, Kind::Shape, Kind::Excepted];
 
-const LOG_PACKED: u64 = fields::BYTES
-    + 16 * fields::BYTES
-    + 256 * fields::BUT
-    + 4096 * fields::ROOM;
+const LOG_PACKED: &[Kind] = &[Kind::Bytes, Kind::Bytes, Kind::But, Kind::Room];
 
-// Looks a word up. If it is not there the kinds are unknown, and nothing is asked.
-pub fn look_up(word: &[u8]) -> Entry {
-    let mut found = Entry {
-        question: Question::Judge,
-        kinds: fields::UNKNOWN,
-    };
-    found = on_one(found, word);
-    found = on_two(found, word);
-    found = sums(found, word);
-    found = others(found, word);
-    books(found, word)
-}
+static ROWS: [Row; 32] = [
+    // The questions on one shape.
+    Row("judge", One(OnOne::Judge), ONE, Form::Numbers),
+    Row("furthest", One(OnOne::Furthest), AIMED, Form::Numbers),
+    Row("mirror", One(OnOne::Mirror), WRITTEN, Form::Shape),
+    Row("length", One(OnOne::Length), ONE, Form::Numbers),
+    Row("area", One(OnOne::Area), ONE, Form::Numbers),
+    Row("width", One(OnOne::Width), ONE, Form::Numbers),
+    Row("box", One(OnOne::Box), ONE, Form::Numbers),
+    // How two shapes relate to each other, whether a third passes between them, and where a drive first meets one.
+    Row("relation", Pair(OnPair::Relation), PAIR, Form::Relation),
+    Row("inside", Pair(OnPair::Inside), PAIR, Form::YesNo),
+    Row("offer", Pair(OnPair::Offer), PAIR_AIMED, Form::YesNo),
+    Row("find", Pair(OnPair::Find), PAIR, Form::Direction),
+    Row("clearance", Pair(OnPair::Clearance), PAIR, Form::Clearance),
+    Row("greatest", Pair(OnPair::Greatest), PAIR, Form::Numbers),
+    Row("excess", Pair(OnPair::Excess), PAIR, Form::Excess),
+    Row("tangents", Pair(OnPair::Tangents), PAIR, Form::Numbers),
+    Row("passage", Pair(OnPair::Passage), THREE, Form::Passage),
+    Row("contact", Pair(OnPair::Contact), PAIR_DRIVEN, Form::Contact),
+    // The shapes that are made of two.
+    Row("sum", Pair(OnPair::Sum), PAIR_WRITTEN, Form::Shape),
+    Row("parts", Question::Parts, PAIR_CALLED, Form::Begun),
+    Row("part", Pair(OnPair::Part), PAIR_WALKED, Form::Shape),
+    Row("merge", Pair(OnPair::Merge), PAIR_WRITTEN, Form::Shape),
+    Row("grow", Pair(OnPair::Grow), PAIR_WRITTEN, Form::Shape),
+    // The points of a sweep, those of a ring, and the corner of two readings.
+    Row("sweep", One(OnOne::Sweep), WRITTEN, Form::Shape),
+    Row("ring", One(OnOne::Ring), WRITTEN, Form::Shape),
+    Row("tablet", One(OnOne::Tablet), READINGS, Form::Bits),
+    // The log, by name and as a whole.
+    Row("bookread", Log(OnLog::Read), LOG_READ, Form::Shape),
+    Row("bookadd", Log(OnLog::Add), LOG_ADDED, Form::Addition),
+    Row("entry", Log(OnLog::Entry), LOG_LISTED, Form::Shape),
+    Row("nearest", Log(OnLog::Nearest), LOG_NEAREST, Form::Nearest),
+    Row("gap", Log(OnLog::Gap), LOG_AROUND, Form::Gap),
+    Row("drive", Log(OnLog::Contact), LOG_DRIVEN, Form::Contact),
+    Row("pack", Log(OnLog::Pack), LOG_PACKED, Form::Addition),
+];
 
-// The questions on one shape.
-fn on_one(mut found: Entry, word: &[u8]) -> Entry {
-    found = row(found, word, b"judge", Question::Judge, ONE);
-    found = row(found, word, b"furthest", Question::Furthest, AIMED);
-    found = row(found, word, b"mirror", Question::Mirror, WRITTEN);
-    found = row(found, word, b"length", Question::Length, ONE);
-    found = row(found, word, b"area", Question::Area, ONE);
-    found = row(found, word, b"width", Question::Width, ONE);
-    row(found, word, b"box", Question::Box, ONE)
-}
-
-// How two shapes relate to each other, whether a third passes between them, and where a drive first meets one.
-fn on_two(mut found: Entry, word: &[u8]) -> Entry {
-    found = row(found, word, b"relation", Question::Relation, PAIR);
-    found = row(found, word, b"inside", Question::Inside, PAIR);
-    found = row(found, word, b"offer", Question::Offer, PAIR_AIMED);
-    found = row(found, word, b"find", Question::Find, PAIR);
-    found = row(found, word, b"clearance", Question::Clearance, PAIR);
-    found = row(found, word, b"greatest", Question::Greatest, PAIR);
-    found = row(found, word, b"excess", Question::Excess, PAIR);
-    found = row(found, word, b"tangents", Question::Tangents, PAIR);
-    found = row(found, word, b"passage", Question::Passage, THREE);
-    row(found, word, b"contact", Question::Contact, PAIR_DRIVEN)
-}
-
-// The shapes that are made of two.
-fn sums(mut found: Entry, word: &[u8]) -> Entry {
-    found = row(found, word, b"sum", Question::Sum, PAIR_WRITTEN);
-    found = row(found, word, b"parts", Question::Parts, PAIR_CALLED);
-    found = row(found, word, b"part", Question::Part, PAIR_WALKED);
-    found = row(found, word, b"merge", Question::Merge, PAIR_WRITTEN);
-    row(found, word, b"grow", Question::Grow, PAIR_WRITTEN)
-}
-
-// The points of a sweep, those of a ring, and the corner of two readings.
-fn others(mut found: Entry, word: &[u8]) -> Entry {
-    found = row(found, word, b"sweep", Question::Sweep, WRITTEN);
-    found = row(found, word, b"ring", Question::Ring, WRITTEN);
-    row(found, word, b"tablet", Question::Tablet, READINGS)
-}
-
-// The log, by name and as a whole.
-fn books(mut found: Entry, word: &[u8]) -> Entry {
-    found = row(found, word, b"bookread", Question::LogRead, LOG_READ);
-    found = row(found, word, b"bookadd", Question::LogAdd, LOG_ADDED);
-    found = row(found, word, b"entry", Question::LogEntry, LOG_LISTED);
-    found = row(found, word, b"nearest", Question::LogNearest, LOG_NEAREST);
-    found = row(found, word, b"gap", Question::LogGap, LOG_AROUND);
-    found = row(found, word, b"drive", Question::LogContact, LOG_DRIVEN);
-    row(found, word, b"pack", Question::LogPack, LOG_PACKED)
-}
-
-// Returns the row's question if the word is its own, else what was found before.
-fn row(found: Entry, word: &[u8], own: &[u8], question: Question, kinds: u64) -> Entry {
-    if check::same(word, own) {
-        Entry { question, kinds }
-    } else {
-        found
-    }
-}
-
-// Returns how the answer of a question is written.
-pub fn form_of(question: Question) -> Form {
-    match question {
-        Question::Mirror | Question::Sum | Question::Merge | Question::Grow => Form::Shape,
-        Question::Sweep | Question::Ring | Question::Part => Form::Shape,
-        Question::LogRead | Question::LogEntry => Form::Shape,
-        Question::Relation => Form::Relation,
-        Question::Inside | Question::Offer => Form::YesNo,
-        Question::Find => Form::Direction,
-        Question::Clearance => Form::Clearance,
-        Question::Excess => Form::Excess,
-        Question::Passage => Form::Passage,
-        Question::Contact => Form::Contact,
-        Question::LogNearest => Form::Nearest,
-        Question::LogGap => Form::Gap,
-        Question::LogContact => Form::Contact,
-        Question::Parts => Form::Begun,
-        Question::Tablet => Form::Bits,
-        Question::LogAdd | Question::LogPack => Form::Addition,
-        _ => Form::Numbers,
-    }
+// Looks a word up.
+pub fn look_up(word: &[u8]) -> Option<Entry> {
+    let row = ROWS.iter().find(|row| row.0.as_bytes() == word)?;
+    let Row(_, question, kinds, form) = row;
+    Some(Entry {
+        question: *question,
+        kinds,
+        form: *form,
+    })
 }

@@ -74,21 +74,13 @@ fn position(list: &[i32], top: usize, i: usize) -> usize
     if k < n { k } else { k - n }
 }
 
-// The better of two pairs: further apart, then earlier.
+// The better of two pairs: further apart, then earlier, by the first position and then by the second.
 fn better(best: Length, next: Length) -> Length
     ensures { Kept best next result }
 {
-    if next.squared < best.squared {
-        return best;
+    if (best.squared, next.from, next.to) < (next.squared, best.from, best.to) {
+        next
+    } else {
+        best
     }
-    if best.squared < next.squared {
-        return next;
-    }
-    if next.from < best.from {
-        return next;
-    }
-    if best.from < next.from {
-        return best;
-    }
-    if next.to < best.to { next } else { best }
 }

@@ -14,12 +14,10 @@ pub fn find(list: &[i32], places: &[usize]) -> usize
     ensures { result ≡ first_inward (points list.now) places.now }
 {
     let n = places.len();
-    let mut i = 0;
-    while i < n {
+    for i in 0..n {
         if turns_in(list, places, i) {
             return i;
         }
-        i += 1;
     }
     n
 }

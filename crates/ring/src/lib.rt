@@ -16,25 +16,24 @@ ghost use Rattle.admission.specs.Admission.{Judged};
 ghost use Rattle.ring.specs.Ring.{open_ring, ring_corners, list_rows, ValidRing};
 ghost use Rattle.ring.specs.Places.{Started, Placed, Held};
 
-use admission::Admission;
 use admission::answer::Refusal;
 use polygon::{corners, limits, rules};
 
 // Judges the points of a ring: refusals 1 to 3 in their order. A closing point is not counted. A ring is one list, so
 // that the first shape is blamed.
-pub fn admit(list: &[i32]) -> Admission
+pub fn admit(list: &[i32]) -> Result<(), Refusal>
     ensures { Judged (ValidRing list.now) (list_rows list.now) result }
 {
     if rules::bad_count(list) {
-        return Admission::No(Refusal::Count { shape: 1 });
+        return Err(Refusal::Count { shape: 1 });
     }
     if limits::exceeds_points(open_count(list)) {
-        return Admission::No(Refusal::Corners { shape: 1 });
+        return Err(Refusal::Corners { shape: 1 });
     }
     if rules::some_outside(list) {
-        return Admission::No(Refusal::Range { shape: 1 });
+        return Err(Refusal::Range { shape: 1 });
     }
-    Admission::Valid
+    Ok(())
 }
 
 // Returns how many points a ring has. A closing point, equal to the first, is not counted.
@@ -64,10 +63,7 @@ pub fn write(list: &[i32], places: &[usize], out: &mut [i32])
     ensures { out.new
         ≡ overwritten (numbers (map (corner (points list.now)) places.now)) out.old }
 {
-    let n = places.len();
-    let mut k = 0;
-    while k < n {
-        corners::put(out, k, corners::corner_at(list, places[k]));
-        k += 1;
+    for (k, place) in places.iter().enumerate() {
+        corners::put(out, k, corners::corner_at(list, *place));
     }
 }

@@ -28,12 +28,10 @@ fn gather(list: &[i32], n: usize, start: usize, kept: &mut [usize]) -> usize
     kept[0] = start;
     let mut count = 1;
     let mut from = start;
-    let mut i = 1;
-    while i < n {
+    for _ in 1..n {
         let to = rules::next(n, from);
         count = keep(kept, count, to, !same_at(list, from, to));
         from = to;
-        i += 1;
     }
     count
 }
@@ -45,10 +43,7 @@ pub fn keep(kept: &mut [usize], count: usize, place: usize, wanted: bool) -> usi
         × (result ≤ count + 1) × (length kept.new ≡ length kept.old) }
 {
     kept[count] = place;
-    if wanted {
-        return count + 1;
-    }
-    count
+    count + usize::from(wanted)
 }
 
 // Returns n, or one less if n is at least 2 and the two corners are the same point.
@@ -58,13 +53,11 @@ pub fn less_closing(list: &[i32], n: usize, first: usize, last: usize) -> usize
     ensures { result ≡ cond (ltb 1 n && same_point (corner (points list.now) first)
         (corner (points list.now) last)) (n - 1) n }
 {
-    if n < 2 {
-        return n;
+    if 1 < n && same_at(list, first, last) {
+        n - 1
+    } else {
+        n
     }
-    if same_at(list, first, last) {
-        return n - 1;
-    }
-    n
 }
 
 // Returns whether two corners are the same point: neither precedes the other.
@@ -72,10 +65,7 @@ fn same_at(list: &[i32], i: usize, j: usize) -> bool
     requires { (i < length (points list.now)) × (j < length (points list.now)) }
     ensures { result ≡ same_point (corner (points list.now) i) (corner (points list.now) j) }
 {
-    if corners::precedes_at(list, i, j) {
-        return false;
-    }
-    !corners::precedes_at(list, j, i)
+    !corners::precedes_at(list, i, j) && !corners::precedes_at(list, j, i)
 }
 
 // Returns the first of the first n corners that no other precedes.
@@ -84,22 +74,10 @@ pub fn least(list: &[i32], n: usize) -> usize
     ensures { result ≡ least_place (corner (points list.now)) n }
 {
     let mut best = 0;
-    let mut i = 0;
-    while i < n {
-        best = lower(list, i, best);
-        i += 1;
-    }
-    best
-}
-
-// Returns i if its corner precedes the best, else the best.
-fn lower(list: &[i32], i: usize, best: usize) -> usize
-    requires { (i < length (points list.now)) × (best < length (points list.now)) }
-    ensures { result ≡ cond (precedes (corner (points list.now) i)
-        (corner (points list.now) best)) i best }
-{
-    if corners::precedes_at(list, i, best) {
-        return i;
+    for i in 0..n {
+        if corners::precedes_at(list, i, best) {
+            best = i;
+        }
     }
     best
 }

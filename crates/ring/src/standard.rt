@@ -38,14 +38,9 @@ fn arrange(list: &[i32], n: usize, start: usize, back: bool, shape: &mut [i32])
         ≡ overwritten (numbers (map (corner (points list.now)) (in_sense back (walked n start n))))
         shape.old }
 {
-    let mut k = 0;
-    while k < n {
-        corners::put(
-            shape,
-            k,
-            corners::corner_at(list, place_at(n, start, back, k)),
-        );
-        k += 1;
+    for k in 0..n {
+        let place = place_at(n, start, back, k);
+        corners::put(shape, k, corners::corner_at(list, place));
     }
 }
 

@@ -38,11 +38,9 @@ fn bends(list: &[i32], kept: &[usize], back: bool, bent: &mut [usize]) -> usize
 {
     let m = kept.len();
     let mut count = 0;
-    let mut j = 0;
-    while j < m {
+    for j in 0..m {
         let bend = bends_at(list, kept, back, j);
         count = places::keep(bent, count, place(kept, back, j), bend);
-        j += 1;
     }
     count
 }

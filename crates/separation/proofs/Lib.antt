@@ -2,3 +2,4 @@
 pub mod Passing
 pub mod Striding
 pub mod Beside
+mod Widened

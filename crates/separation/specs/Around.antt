@@ -3,7 +3,8 @@
 --     right_of D e       the origin is to the right of edge e
 --     origin_on D        the origin is on D, a point or a segment that has it on its line
 --     origin_in D        0 outside, 1 on the rim, 2 inside
---     Passed D s        a walk saw s of D
+--     Saw D v           what a walk round D saw is v
+--     Passed D s        the same of the v of s
 -- What it means: `origin_in-relation` of the theory.
 use Rattle.std.specs.Prelude.{◌≡◌, Bool, true, false, cond, List, ℕ, ltb, ℤ, pos, length}
 use Rattle.std.specs.Int.Signed.{lt_z, le_z}
@@ -14,6 +15,8 @@ use Rattle.plane.specs.Shape.{next}
 use Rattle.plane.specs.Direction.{value}
 use Rattle.plane.specs.Separation.{not_left}
 use Rattle.polygon.specs.Point.{at}
+use Rattle.separation.specs.declared.around.Seen.{Seen}
+use Rattle.separation.specs.declared.around.Seen.TheVariants.{Outside, Round}
 use Rattle.separation.specs.declared.around.Sides.{Sides}
 use Rattle.separation.specs.Outward.{Outward}
 
@@ -32,8 +35,9 @@ origin_in D = cond (some (right_of D) (length D)) (pos 0)
     (cond (ltb (length D) 3) (cond (origin_on D) (pos 1) (pos 0)) (cond (some (not_left D) (length D)) (pos 1) (pos 2)))
 
 -- the walk stops at an edge that has the origin to its right, and then knows its normal and no more
-pub record Passed (D : List Point) (s : Sides) : Type 0 where
-  pub outside-is : s.outside ≡ some (right_of D) (length D)
-  pub count-is : s.outside ≡ false → s.count ≡ length D
-  pub rim-is : s.outside ≡ false → s.rim ≡ some (not_left D) (length D)
-  pub normal-is : s.outside ≡ true → Outward D (at s.normal)
+abbrev pub Saw : List Point → Seen → Type 0
+Saw D (Outside normal) = (some (right_of D) (length D) ≡ true) × Outward D (at normal)
+Saw D (Round count rim) = (some (right_of D) (length D) ≡ false) × (count ≡ length D) × (rim ≡ some (not_left D) (length D))
+
+abbrev pub Passed : List Point → Sides → Type 0
+Passed D s = Saw D s.seen

@@ -4,6 +4,5 @@ pub mod Outward
 pub mod Around
 pub mod Passing
 pub mod Directions
-pub mod Differences
 pub mod Meaning
 pub mod theory

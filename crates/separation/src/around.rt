@@ -17,17 +17,19 @@ use crate::{normal, stride};
 use calipers::{image, side};
 use polygon::point;
 use polygon::point::Point;
-use polygon::rules::either;
 
-// What a walk round the edges saw: whether the origin is to the right of one, at which it stops, and then its outer
-// normal; if of none, how many edges there are and whether the origin is not to the left of one. And how many edges of
-// each shape are passed before the edge at which it ended.
+// What a walk round the edges saw: the outer normal of an edge that has the origin to its right, at which it stops; if
+// none has, how many edges there are, and whether the origin is not to the left of one.
+#[derive(Clone, Copy)]
+pub enum Seen {
+    Outside(Point),
+    Round { count: usize, rim: bool },
+}
+
+// What a walk round the edges saw, and how many edges of each shape are passed before the edge at which it ended.
 #[derive(Clone, Copy)]
 pub struct Sides {
-    pub count: usize,
-    pub outside: bool,
-    pub rim: bool,
-    pub normal: Point,
+    pub seen: Seen,
     pub first: usize,
     pub second: usize,
 }
@@ -39,16 +41,17 @@ pub fn related(a: &[i32], b: &[i32], top: usize, sides: Sides) -> Relation
         × Passed (vector_sum (points a.now) (points (image b.now))) sides }
     ensures { number_of result ≡ relation_number (points a.now) (points b.now) }
 {
-    if sides.outside {
+    let Seen::Round { count, rim } = sides.seen else {
         return Relation::Apart;
+    };
+    if count < 3 {
+        return if is_on(a, b, top) {
+            Relation::Touching
+        } else {
+            Relation::Apart
+        };
     }
-    if sides.count < 3 {
-        if is_on(a, b, top) {
-            return Relation::Touching;
-        }
-        return Relation::Apart;
-    }
-    if sides.rim {
+    if rim {
         return Relation::Touching;
     }
     Relation::Overlapping
@@ -95,14 +98,18 @@ pub fn pass(a: &[i32], b: &[i32], top: usize) -> Sides
         let m = side::next(a, s, c < 0);
         let n = image::next(b, top, t, 0 < c);
         let turn = point::cross(from, side::here(m, n));
-        rim = either(rim, turn <= 0);
+        rim |= turn <= 0;
         count += 1;
-        if either(turn < 0, m.at + n.at == all) {
+        if turn < 0 {
             return Sides {
-                count,
-                outside: turn < 0,
-                rim,
-                normal: normal::passed_normal(s, t, m, n),
+                seen: Seen::Outside(normal::passed_normal(s, t, m, n)),
+                first: s.at,
+                second: t.at,
+            };
+        }
+        if m.at + n.at == all {
+            return Sides {
+                seen: Seen::Round { count, rim },
                 first: s.at,
                 second: t.at,
             };

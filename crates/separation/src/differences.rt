@@ -1,24 +1,20 @@
 // Inner functions for the shape of all differences of two shapes, a corner of the first minus a corner of the second:
 // its size before it is written, and the walk that writes it. It is the sum of the first and the mirror image of the
 // second, whose peak is at position top.
-ghost use Rattle.std.specs.Prelude.{◌≡◌, ◌*◌, ◌≤◌, length, take};
+ghost use Rattle.std.specs.Prelude.{◌≡◌, ◌*◌, ◌≤◌, length};
 ghost use Rattle.plane.specs.Point.{points, numbers};
 ghost use Rattle.plane.specs.Refusal.{Valid, some_outside};
 ghost use Rattle.plane.specs.Corner.{shape_of};
 ghost use Rattle.plane.specs.Separation.{differences};
 ghost use Rattle.plane.specs.Output.{overwritten};
 ghost use Rattle.polygon.specs.Peak.{Peak};
-ghost use Rattle.calipers.specs.Image.{image};
-ghost use Rattle.calipers.specs.Walk.{begun};
-ghost use Rattle.sums.specs.Advance.{next_corners, Walked};
 ghost use Rattle.sums.specs.Size.{Reckoned};
-ghost use Rattle.separation.specs.Differences.{enough};
 
-use calipers::side::Side;
+use calipers::round::Mirrored;
 use calipers::{image, side};
 use polygon::extent::Extent;
 use polygon::{corners, extent};
-use sums::size;
+use sums::{size, walk};
 
 // Writes the shape at the front of the output, keeps all after it, and returns how many corners it has.
 pub fn write(a: &[i32], b: &[i32], top: usize, out: &mut [i32]) -> usize
@@ -28,59 +24,8 @@ pub fn write(a: &[i32], b: &[i32], top: usize, out: &mut [i32]) -> usize
         × (out.new ≡ overwritten
         (numbers (shape_of (differences (points a.now) (points b.now)))) out.old) }
 {
-    let first = side::side_at(a, 0);
-    let second = image::side_at(b, top, 0);
-    let all = first.end + second.end;
-    let far = stride(a, b, top, first, second, out);
-    let mut s = far.first;
-    let mut t = far.second;
-    let mut count = far.count;
-    loop {
-        corners::put(out, count, side::here(s, t));
-        count += 1;
-        let c = side::order(s, t);
-        s = side::next(a, s, c < 0);
-        t = image::next(b, top, t, 0 < c);
-        if s.at + t.at == all {
-            return count;
-        }
-    }
-}
-
-// The sides to which a walk came, and the corners that were written.
-#[derive(Clone, Copy)]
-struct Partway {
-    count: usize,
-    first: Side,
-    second: Side,
-}
-
-// Writes corners at the front of the output as long as both shapes have three edges left. No step tests for the end of
-// a shape: that is quicker.
-fn stride(a: &[i32], b: &[i32], top: usize, s: Side, t: Side, out: &mut [i32]) -> Partway
-    requires { Valid a.now × Valid b.now × Peak (points b.now) top
-        × Walked a.now (image b.now) begun (enough a.now b.now) 0 s t
-        × (2 * length (next_corners a.now (image b.now) begun (enough a.now b.now)) ≤ length out.old) }
-    ensures { Walked a.now (image b.now) begun (enough a.now b.now)
-        result.count result.first result.second
-        × (out.new ≡ overwritten (numbers (take result.count (next_corners a.now
-        (image b.now) begun (enough a.now b.now)))) out.old) }
-{
-    let mut first = s;
-    let mut second = t;
-    let mut count = 0;
-    while side::are_inside(first, second) {
-        corners::put(out, count, side::here(first, second));
-        count += 1;
-        let c = side::order(first, second);
-        first = side::ahead(a, first, c < 0);
-        second = image::ahead(b, top, second, 0 < c);
-    }
-    Partway {
-        count,
-        first,
-        second,
-    }
+    let most = corners::count(a) + corners::count(b);
+    walk::walk_round(a, &Mirrored { list: b, top }, 0, 0, most, out).count
 }
 
 // Returns the number of corners of the shape, which is to be written to an output of `room` numbers. Where the corners

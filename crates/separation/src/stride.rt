@@ -86,7 +86,7 @@ fn moment(p: Point, s: Side) -> i64
     requires { Small (2 ^ 22) (at p) × Small (2 ^ 22) (next_of s) }
     ensures { result ≡ cross (at p) (next_of s) }
 {
-    (p.x as i64) * s.rise - (p.y as i64) * s.run
+    i64::from(p.x) * s.rise - i64::from(p.y) * s.run
 }
 
 // The same of the next edges of two sides, made one.
@@ -94,5 +94,5 @@ fn joint_moment(p: Point, s: Side, t: Side) -> i64
     requires { Small (2 ^ 22) (at p) × Small (2 ^ 22) (next_of s) × Small (2 ^ 22) (next_of t) }
     ensures { result ≡ cross (at p) (next_of s ⊕ next_of t) }
 {
-    (p.x as i64) * (s.rise + t.rise) - (p.y as i64) * (s.run + t.run)
+    i64::from(p.x) * (s.rise + t.rise) - i64::from(p.y) * (s.run + t.run)
 }

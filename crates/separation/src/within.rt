@@ -21,10 +21,8 @@ pub fn in_polygon(a: &[i32], b: &[i32]) -> bool
     while t.at < n {
         let c = side::order(s, t);
         let passes = c <= 0;
-        if passes {
-            if side::turn(t, s) < 0 {
-                return false;
-            }
+        if passes && side::turn(t, s) < 0 {
+            return false;
         }
         s = side::next(a, s, c < 0);
         t = side::next(b, t, 0 < c);
@@ -37,13 +35,10 @@ pub fn in_segment(a: &[i32], p: Point, q: Point) -> bool
     requires { Valid a.now × Small (2 ^ 21) (at p) × Small (2 ^ 21) (at q) }
     ensures { result ≡ inside (points a.now) (at p ∷ at q ∷ []) }
 {
-    let n = corners::count(a);
-    let mut i = 0;
-    while i < n {
+    for i in 0..corners::count(a) {
         if !on_segment(corners::corner_at(a, i), p, q) {
             return false;
         }
-        i += 1;
     }
     true
 }
@@ -55,8 +50,5 @@ fn on_segment(x: Point, p: Point, q: Point) -> bool
 {
     let to_first = point::step(x, p);
     let to_last = point::step(x, q);
-    if point::cross(to_first, to_last) != 0 {
-        return false;
-    }
-    point::dot(to_first, to_last) <= 0
+    point::cross(to_first, to_last) == 0 && point::dot(to_first, to_last) <= 0
 }

@@ -9,14 +9,13 @@ ghost use Rattle.plane.specs.Point.{points};
 ghost use Rattle.plane.specs.Refusal.{Valid};
 ghost use Rattle.plane.specs.Furthest.{bad_direction};
 ghost use Rattle.plane.specs.Offer.{below};
-ghost use Rattle.plane.specs.Primitive.{primitive};
 ghost use Rattle.polygon.specs.Point.{at};
-ghost use Rattle.separator.specs.declared.Separator.TheVariants.{Direction};
 ghost use Rattle.separator.specs.Separator.{Finds};
 
 use polygon::point::Point;
 use polygon::{peak, point};
 use separation::around;
+use separation::around::Seen;
 
 // Whether every corner of the first shape is strictly below every corner of the second in a direction: the greatest
 // value of the first is less than the least of the second, which is the greatest in the opposite direction, negated.
@@ -30,41 +29,20 @@ pub fn is_below(a: &[i32], b: &[i32], d: Point) -> bool
     greatest < least
 }
 
-// A direction in which the first shape is below the second, or that there is none.
-#[derive(Clone, Copy)]
-pub enum Separator {
-    Direction { u: i32, v: i32 },
-    Nothing,
-}
-
-// A direction that is accepted, its parts with no common divisor above 1; nothing exactly if the shapes are not apart.
-// Which of the directions it is, is left open. It leads away from the differences, if any does: it is the normal of the
-// first edge that has the origin to its right. If none has, only a point or a segment in line with the origin can have
-// it outside, and then it is the opposite of a corner.
-pub fn find(a: &[i32], b: &[i32]) -> Separator
+// A direction that is accepted, its parts with no common divisor above 1; none exactly if the shapes are not apart.
+// Which
+// of the directions it is, is left open. It leads away from the differences, if any does: it is the normal of the first
+// edge that has the origin to its right. If none has, only a point or a segment in line with the origin can have it
+// outside, and then it is the opposite of a corner.
+// Ruled out: direction not divided.
+pub fn find(a: &[i32], b: &[i32]) -> Option<Point>
     requires { Valid a.now × Valid b.now }
     ensures { Finds (points a.now) (points b.now) result }
 {
     let top = peak::top(b);
-    let sides = around::pass(a, b, top);
-    if sides.outside {
-        return named(sides.normal);
+    match around::pass(a, b, top).seen {
+        Seen::Outside(normal) => Some(primitive::primitive(normal)),
+        Seen::Round { count, .. } if 2 < count || around::is_on(a, b, top) => None,
+        Seen::Round { .. } => Some(primitive::primitive(point::opposite(around::first(a, b, top)))),
     }
-    if 2 < sides.count {
-        return Separator::Nothing;
-    }
-    if around::is_on(a, b, top) {
-        return Separator::Nothing;
-    }
-    named(point::opposite(around::first(a, b, top)))
-}
-
-// A direction, its parts over their greatest common divisor.
-// Ruled out: direction not divided.
-fn named(d: Point) -> Separator
-    requires { bad_direction (at d) ≡ false }
-    ensures { result ≡ Direction (primitive (at d)).x (primitive (at d)).y }
-{
-    let e = primitive::primitive(d);
-    Separator::Direction { u: e.x, v: e.y }
 }

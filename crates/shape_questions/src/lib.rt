@@ -13,8 +13,7 @@ ghost use Rattle.plane.specs.Question.{ask_width};
 ghost use Rattle.answers.specs.Answer.{of_answer, of_furthest, of_length, of_width, of_area};
 ghost use Rattle.area.specs.Area.{ask_area};
 
-use admission::Admission;
-use answers::{Answer, Area, Furthest, Length, Refusal, Width};
+use answers::{Answer, Face, Length, OnFloor, Refusal, Width};
 use polygon::point::Point;
 use polygon::{corners, opposite};
 
@@ -23,16 +22,14 @@ use polygon::{corners, opposite};
 // the first corner, that breaks it; three corners in line do), and a list begun at another corner than the lowest,
 // leftmost one.
 // Ruled out: consecutive turns only; one corner fewer; positions swapped.
-pub fn judge(list: &[i32], floor: u16) -> Answer
+pub fn judge(list: &[i32], floor: u16) -> Answer<usize>
     ensures { of_answer result ≡ reply (ask_judge (on list.now floor)) }
 {
-    if let Admission::No(refusal) = admission::admit(list, 1) {
-        return Answer::No(refusal);
-    }
-    Answer::Corners {
-        count: corners::count(list),
+    admission::admit(list, 1)?;
+    Ok(OnFloor {
+        answer: corners::count(list),
         floor,
-    }
+    })
 }
 
 // The corners that are furthest in the direction (u, v): the first and the last, counterclockwise, of those with the
@@ -42,43 +39,34 @@ pub fn judge(list: &[i32], floor: u16) -> Answer
 // one whose parts have a common divisor above 1: of directions that point the same way one is answered.
 // Ruled out: segment taken over the end; smallest position over the end; last position on a tie; upright direction
 // refused; eleven and twelve exchanged.
-pub fn furthest(list: &[i32], floor: u16, u: i32, v: i32) -> Furthest
+pub fn furthest(list: &[i32], floor: u16, u: i32, v: i32) -> Answer<Face>
     ensures { of_furthest result ≡ reply (ask_furthest (on list.now floor) (point u v)) }
 {
-    if let Admission::No(refusal) = admission::admit(list, 1) {
-        return Furthest::No(refusal);
-    }
-    if let Admission::No(refusal) = admission::admit_direction(u, v) {
-        return Furthest::No(refusal);
-    }
-    let face = direction::face_towards(list, Point { x: u, y: v });
-    Furthest::At {
-        first: face.first,
-        last: face.last,
-        value: face.value,
+    admission::admit(list, 1)?;
+    admission::admit_direction(u, v)?;
+    Ok(OnFloor {
+        answer: direction::face_towards(list, Point { x: u, y: v }),
         floor,
-    }
+    })
 }
 
 // Writes the mirror image, the shape of all (-x, -y), at the front of the output, and answers how many corners it has:
 // as many as the list. All after the image is kept. Refused, with the output as it was: 1 to 5, then an output that
 // holds fewer numbers than the image.
 // Ruled out: mirror begun at the old start; output left alone; coordinates swapped; tail cleared.
-pub fn mirror(list: &[i32], floor: u16, out: &mut [i32]) -> Answer
+pub fn mirror(list: &[i32], floor: u16, out: &mut [i32]) -> Answer<usize>
     ensures { (of_answer result ≡ reply (ask_mirror (on list.now floor) out.old))
         × (out.new ≡ output (ask_mirror (on list.now floor) out.old)) }
 {
-    if let Admission::No(refusal) = admission::admit(list, 1) {
-        return Answer::No(refusal);
-    }
+    admission::admit(list, 1)?;
     if out.len() < list.len() {
-        return Answer::No(Refusal::Room);
+        return Err(Refusal::Room);
     }
     opposite::mirror(list, out);
-    Answer::Corners {
-        count: corners::count(list),
+    Ok(OnFloor {
+        answer: corners::count(list),
         floor,
-    }
+    })
 }
 
 // Writes the shape of up to as many points as a sweep may have, in any order, at the front of the output, and answers
@@ -86,13 +74,11 @@ pub fn mirror(list: &[i32], floor: u16, out: &mut [i32]) -> Answer
 // corner of it; points that are all equal make a point, and points in one line a segment. Refused, with the output as
 // it was: 1 to 3, points counted before repeats are dropped, and then an output that is too small.
 // Ruled out: points in line kept; repeats kept; repeats not counted; output written before the room is known.
-pub fn sweep(list: &[i32], floor: u16, out: &mut [i32]) -> Answer
+pub fn sweep(list: &[i32], floor: u16, out: &mut [i32]) -> Answer<usize>
     ensures { (of_answer result ≡ reply (ask_sweep (on list.now floor) out.old))
         × (out.new ≡ output (ask_sweep (on list.now floor) out.old)) }
 {
-    if let Admission::No(refusal) = admission::admit_points(list) {
-        return Answer::No(refusal);
-    }
+    admission::admit_points(list)?;
     sweeping::sweep(list, floor, out)
 }
 
@@ -100,33 +86,26 @@ pub fn sweep(list: &[i32], floor: u16, out: &mut [i32]) -> Answer
 // such pairs: the smallest first position, then the smallest second. A point answers 0 at 0, 0, and a segment its own
 // two corners. Refused: 1 to 5.
 // Ruled out: ties to the larger position; first position given twice; search turned on distance.
-pub fn length(list: &[i32], floor: u16) -> Length
+pub fn length(list: &[i32], floor: u16) -> Answer<Length>
     ensures { of_length result ≡ reply (ask_length (on list.now floor)) }
 {
-    if let Admission::No(refusal) = admission::admit(list, 1) {
-        return Length::No(refusal);
-    }
-    let found = measure::furthest_pair(list);
-    Length::Between {
-        squared: found.squared,
-        from: found.from,
-        to: found.to,
+    admission::admit(list, 1)?;
+    Ok(OnFloor {
+        answer: measure::furthest_pair(list),
         floor,
-    }
+    })
 }
 
 // Returns twice the area, which is a whole number: 0 for a point and a segment. Refused: 1 to 5.
 // Ruled out: first edge left out; outline not closed.
-pub fn area(list: &[i32], floor: u16) -> Area
+pub fn area(list: &[i32], floor: u16) -> Answer<u64>
     ensures { of_area result ≡ reply (ask_area (on list.now floor)) }
 {
-    if let Admission::No(refusal) = admission::admit(list, 1) {
-        return Area::No(refusal);
-    }
-    Area::Twice {
-        twice: area::twice_area(list),
+    admission::admit(list, 1)?;
+    Ok(OnFloor {
+        answer: area::twice_area(list),
         floor,
-    }
+    })
 }
 
 // The edge across which the shape is narrowest, the corner furthest from it, that corner's turn, the edge's squared
@@ -134,22 +113,15 @@ pub fn area(list: &[i32], floor: u16) -> Area
 // smallest position; of two corners equally far from it, as where the opposite edge is parallel, the smallest position.
 // Refused: 1 to 5, then a point and a segment.
 // Ruled out: later edge on a tie; widths compared after rounding down; rounded width one too large.
-pub fn width(list: &[i32], floor: u16) -> Width
+pub fn width(list: &[i32], floor: u16) -> Answer<Width>
     ensures { of_width result ≡ reply (ask_width (on list.now floor)) }
 {
-    if let Admission::No(refusal) = admission::admit(list, 1) {
-        return Width::No(refusal);
-    }
+    admission::admit(list, 1)?;
     if corners::count(list) < 3 {
-        return Width::No(Refusal::Flat);
+        return Err(Refusal::Flat);
     }
-    let found = measure::narrowest_edge(list);
-    Width::Across {
-        edge: found.edge,
-        corner: found.corner,
-        turn: found.turn,
-        squared: found.squared,
-        rounded: found.rounded,
+    Ok(OnFloor {
+        answer: measure::narrowest_edge(list),
         floor,
-    }
+    })
 }

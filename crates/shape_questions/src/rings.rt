@@ -8,8 +8,7 @@ ghost use Rattle.ring.specs.Ring.{open_ring, ring_corners, ring_shape, ValidRing
 ghost use Rattle.ring.specs.Places.{Started};
 ghost use Rattle.answers.specs.Answer.{of_answer};
 
-use admission::Admission;
-use answers::{Answer, Refusal};
+use answers::{Answer, OnFloor, Refusal};
 use polygon::{corners, limits, numbers};
 use ring::{inward, places, standard, turns};
 
@@ -23,13 +22,11 @@ const FEW_NUMBERS: usize = 2 * FEW_POINTS;
 // points in line. Points that are all equal make a point, and a way there and back a segment. Nothing is filled up.
 // Refused, with the output as it was: 1 to 3, a closing point not counted; 4 for a ring that is not convex, with the
 // positions in the list of the corner that turns in and of the corner before it; an output that is too small.
-pub fn ring(list: &[i32], floor: u16, out: &mut [i32]) -> Answer
+pub fn ring(list: &[i32], floor: u16, out: &mut [i32]) -> Answer<usize>
     ensures { (of_answer result ≡ reply (ask_ring (on list.now floor) out.old))
         × (out.new ≡ output (ask_ring (on list.now floor) out.old)) }
 {
-    if let Admission::No(refusal) = ring::admit(list) {
-        return Answer::No(refusal);
-    }
+    ring::admit(list)?;
     if list.len() <= FEW_NUMBERS {
         let mut few = [0i32; FEW_NUMBERS];
         return ring_in(list, floor, &mut few, out);
@@ -40,7 +37,7 @@ pub fn ring(list: &[i32], floor: u16, out: &mut [i32]) -> Answer
 
 // The same of a ring that passed 1 to 3, with a lent buffer for its points. Most rings are a shape's list but for their
 // beginning and sense; any other is traced by positions.
-fn ring_in(list: &[i32], floor: u16, shape: &mut [i32], out: &mut [i32]) -> Answer
+fn ring_in(list: &[i32], floor: u16, shape: &mut [i32], out: &mut [i32]) -> Answer<usize>
     requires { ValidRing list.now × (2 * length (open_ring (points list.now)) ≤ length shape.old) }
     ensures { (of_answer result ≡ reply (ask_ring (on list.now floor) out.old))
         × (out.new ≡ output (ask_ring (on list.now floor) out.old)) }
@@ -54,24 +51,24 @@ fn ring_in(list: &[i32], floor: u16, shape: &mut [i32], out: &mut [i32]) -> Answ
 }
 
 // The same of a ring whose corners are these, and are a shape: 8, or the corners.
-fn shown(list: &[i32], floor: u16, shape: &[i32], out: &mut [i32]) -> Answer
+fn shown(list: &[i32], floor: u16, shape: &[i32], out: &mut [i32]) -> Answer<usize>
     requires { ValidRing list.now × (shape.now ≡ numbers (ring_shape (points list.now)))
         × IsShape (ring_shape (points list.now)) }
     ensures { (of_answer result ≡ reply (ask_ring (on list.now floor) out.old))
         × (out.new ≡ output (ask_ring (on list.now floor) out.old)) }
 {
     if out.len() < shape.len() {
-        return Answer::No(Refusal::Room);
+        return Err(Refusal::Room);
     }
     numbers::copy(shape, shape.len(), out, 0);
-    Answer::Corners {
-        count: corners::count(shape),
+    Ok(OnFloor {
+        answer: corners::count(shape),
         floor,
-    }
+    })
 }
 
 // The same of any ring that passed 1 to 3.
-fn traced(list: &[i32], n: usize, start: usize, floor: u16, out: &mut [i32]) -> Answer
+fn traced(list: &[i32], n: usize, start: usize, floor: u16, out: &mut [i32]) -> Answer<usize>
     requires { ValidRing list.now × Started (points list.now) n start }
     ensures { (of_answer result ≡ reply (ask_ring (on list.now floor) out.old))
         × (out.new ≡ output (ask_ring (on list.now floor) out.old)) }
@@ -95,7 +92,7 @@ fn traced_in(
     kept: &mut [usize],
     bent: &mut [usize],
     out: &mut [i32],
-) -> Answer
+) -> Answer<usize>
     requires { ValidRing list.now × Started (points list.now) n start × (n ≤ length kept.old)
         × (n ≤ length bent.old) }
     ensures { (of_answer result ≡ reply (ask_ring (on list.now floor) out.old))
@@ -106,7 +103,7 @@ fn traced_in(
 }
 
 // The same of the positions of its corners: 4, then 8, or the corners.
-fn told(list: &[i32], floor: u16, places: &[usize], out: &mut [i32]) -> Answer
+fn told(list: &[i32], floor: u16, places: &[usize], out: &mut [i32]) -> Answer<usize>
     requires { ValidRing list.now × (places.now ≡ ring_corners (points list.now)) }
     ensures { (of_answer result ≡ reply (ask_ring (on list.now floor) out.old))
         × (out.new ≡ output (ask_ring (on list.now floor) out.old)) }
@@ -114,15 +111,15 @@ fn told(list: &[i32], floor: u16, places: &[usize], out: &mut [i32]) -> Answer
     let n = places.len();
     let at = inward::find(list, places);
     if at < n {
-        return Answer::No(Refusal::Side {
+        return Err(Refusal::Side {
             shape: 1,
             edge: places[turns::previous(n, at)],
             corner: places[at],
         });
     }
     if out.len() < 2 * n {
-        return Answer::No(Refusal::Room);
+        return Err(Refusal::Room);
     }
     ring::write(list, places, out);
-    Answer::Corners { count: n, floor }
+    Ok(OnFloor { answer: n, floor })
 }

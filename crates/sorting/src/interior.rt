@@ -8,7 +8,6 @@ ghost use Rattle.polygon.specs.Point.{at, Small};
 ghost use Rattle.sorting.specs.Buffer.{Holds};
 ghost use Rattle.sorting.specs.Interior.{is_inside, outer as interior_outer, Reached, Reduced};
 
-use crate::order;
 use polygon::corners;
 use polygon::point::Point;
 
@@ -19,6 +18,15 @@ pub struct Rectangle {
     pub right: i32,
     pub low: i32,
     pub high: i32,
+}
+
+impl Rectangle {
+    // Whether a point lies strictly inside.
+    fn surrounds(self, p: Point) -> bool
+        ensures { result ≡ is_inside self (at p) }
+    {
+        is_between(self.left, p.x, self.right) && is_between(self.low, p.y, self.high)
+    }
 }
 
 // The positions of four points of a list.
@@ -35,6 +43,26 @@ pub struct Extremes {
 pub struct Far {
     pub at: usize,
     pub value: i32,
+}
+
+impl Far {
+    // The first position.
+    fn first(value: i32) -> Far
+        ensures { result.at ≡ 0 }
+    {
+        Far { at: 0, value }
+    }
+
+    // The position of the greater value.
+    fn or(self, i: usize, value: i32) -> Far
+        ensures { (n : ℕ) → self.at < n → i < n → result.at < n }
+    {
+        if self.value < value {
+            Far { at: i, value }
+        } else {
+            self
+        }
+    }
 }
 
 // Copies the points that are not strictly inside the inner rectangle to the front of the buffer, and answers how many
@@ -60,10 +88,10 @@ fn inner_rectangle(list: &[i32]) -> Rectangle
     let c = corners::corner_at(list, found.southwest);
     let d = corners::corner_at(list, found.southeast);
     Rectangle {
-        left: greater(b.x, c.x),
-        right: lesser(a.x, d.x),
-        low: greater(c.y, d.y),
-        high: lesser(a.y, b.y),
+        left: b.x.max(c.x),
+        right: a.x.min(d.x),
+        low: c.y.max(d.y),
+        high: a.y.min(b.y),
     }
 }
 
@@ -78,20 +106,17 @@ fn outermost(list: &[i32]) -> Extremes
 {
     let n = corners::count(list);
     let p = corners::corner_at(list, 0);
-    let mut a = start(northeast(p));
-    let mut b = start(northwest(p));
-    let mut c = start(northeast(p));
-    let mut d = start(northwest(p));
-    let mut i = 1;
-    while i < n {
+    let mut a = Far::first(northeast(p));
+    let mut b = Far::first(northwest(p));
+    let mut c = Far::first(southwest(p));
+    let mut d = Far::first(southeast(p));
+    // One walk finds all four.
+    for i in 1..n {
         let q = corners::corner_at(list, i);
-        let x = northeast(q);
-        let y = northwest(q);
-        a = further(a, i, x);
-        b = further(b, i, y);
-        c = nearer(c, i, x);
-        d = nearer(d, i, y);
-        i += 1;
+        a = a.or(i, northeast(q));
+        b = b.or(i, northwest(q));
+        c = c.or(i, southwest(q));
+        d = d.or(i, southeast(q));
     }
     Extremes {
         northeast: a.at,
@@ -115,50 +140,18 @@ fn northwest(p: Point) -> i32
     p.y - p.x
 }
 
-// The first position.
-fn start(value: i32) -> Far
-    ensures { result.at ≡ 0 }
+// How far out a point is to the southwest.
+fn southwest(p: Point) -> i32
+    requires { Small (2 ^ 21) (at p) }
 {
-    Far { at: 0, value }
+    -p.x - p.y
 }
 
-// The position of the greater value.
-fn further(far: Far, i: usize, value: i32) -> Far
-    ensures { (n : ℕ) → far.at < n → i < n → result.at < n }
+// How far out a point is to the southeast.
+fn southeast(p: Point) -> i32
+    requires { Small (2 ^ 21) (at p) }
 {
-    let better = far.value < value;
-    Far {
-        at: order::choose(better, i, far.at),
-        value: pick(better, value, far.value),
-    }
-}
-
-// The position of the smaller value.
-fn nearer(far: Far, i: usize, value: i32) -> Far
-    ensures { (n : ℕ) → far.at < n → i < n → result.at < n }
-{
-    let better = value < far.value;
-    Far {
-        at: order::choose(better, i, far.at),
-        value: pick(better, value, far.value),
-    }
-}
-
-// The number x or y.
-fn pick(first: bool, x: i32, y: i32) -> i32 {
-    if first { x } else { y }
-}
-
-fn greater(x: i32, y: i32) -> i32
-    ensures { (x ≤ℤ result) × (y ≤ℤ result) }
-{
-    if x < y { y } else { x }
-}
-
-fn lesser(x: i32, y: i32) -> i32
-    ensures { (result ≤ℤ x) × (result ≤ℤ y) }
-{
-    if x < y { x } else { y }
+    p.x - p.y
 }
 
 // Copies the points that are not strictly inside a rectangle to the front of the buffer, and answers how many they are.
@@ -168,24 +161,13 @@ fn copy_outer(list: &[i32], inner: Rectangle, buf: &mut [i32]) -> usize
     ensures { Holds buf.new result (interior_outer inner (points list.now)) }
 {
     let n = corners::count(list);
-    let mut i = 0;
     let mut k = 0;
-    while i < n {
+    for i in 0..n {
         let p = corners::corner_at(list, i);
         corners::put(buf, k, p);
-        k = order::after(!is_inside(inner, p), k);
-        i += 1;
+        k += usize::from(!inner.surrounds(p));
     }
     k
-}
-
-// Whether a point lies strictly inside a rectangle.
-fn is_inside(inner: Rectangle, p: Point) -> bool
-    ensures { result ≡ is_inside inner (at p) }
-{
-    let across = is_between(inner.left, p.x, inner.right);
-    let upright = is_between(inner.low, p.y, inner.high);
-    across && upright
 }
 
 // Whether a number lies strictly between two others.

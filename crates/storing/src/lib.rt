@@ -9,6 +9,7 @@ ghost use Rattle.journal.specs.Format.{recorded};
 ghost use Rattle.journal.specs.Adding.{clears, writes, stores, made, end as adding_end};
 ghost use Rattle.journal.specs.Allowance.{Blank, Ran, cleared};
 
+use journal::kind::Kind;
 use journal::records;
 
 // Whether a record of the list, whatever its name and floor, has too little room from a place on: two bytes for the
@@ -19,7 +20,7 @@ pub fn is_full(log: &[u8], end: usize, list: &[i32]) -> bool
     ensures { (n f : ℕ)
         → result ≡ ltb (length log.now - end) (length (recorded n f list.now)) }
 {
-    log.len() - end < 2 + records::FLOORED_BYTES + 4 * list.len()
+    log.len() - end < 2 + Kind::Floored.fixed_bytes() + 4 * list.len()
 }
 
 // Clears what is after the last whole record, then stores the record there: at most as many stores as
@@ -43,14 +44,14 @@ fn write(log: &mut [u8], p: usize, name: u16, floor: u16, list: &[i32], allowed:
         × (log.new
         ≡ made (take allowed (writes p (recorded name floor list.now))) log.old) }
 {
-    let size = records::FLOORED_BYTES + 4 * list.len();
+    let size = Kind::Floored.fixed_bytes() + 4 * list.len();
     let last = p + 1 + size;
     let low = (size % 256) as u8;
     let mut left = byte(log, p, low, allowed);
     left = byte(log, p + 1, (size / 256 % 256) as u8, left);
-    left = pair(log, p + 2, records::FLOORED, left);
-    left = pair(log, p + 4, name as usize, left);
-    left = pair(log, p + 6, floor as usize, left);
+    left = pair(log, p + 2, Kind::Floored as u16, left);
+    left = pair(log, p + 4, name, left);
+    left = pair(log, p + 6, floor, left);
     left = words(log, p + 8, list, left);
     byte(log, last, records::LAST_BYTE, left);
     0 < left
@@ -66,9 +67,7 @@ fn clear(log: &mut [u8], from: usize, allowed: usize) -> usize
         return allowed;
     }
     let mut left = allowed;
-    let mut p = log.len();
-    while from < p {
-        p -= 1;
+    for p in (from..log.len()).rev() {
         left = tidy(log, p, left);
     }
     left
@@ -80,12 +79,8 @@ fn is_blank(log: &[u8], from: usize) -> bool
     ensures { result ≡ true → Blank log.now from }
 {
     let mut most = 0u8;
-    let mut p = from;
-    while p < log.len() {
-        if most < log[p] {
-            most = log[p];
-        }
-        p += 1;
+    for p in from..log.len() {
+        most = most.max(log[p]);
     }
     most == 0
 }
@@ -107,10 +102,8 @@ fn words(log: &mut [u8], p: usize, list: &[i32], allowed: usize) -> usize
     ensures { Ran allowed (writes p (bytes_words list.now)) log.old result log.new }
 {
     let mut left = allowed;
-    let mut i = 0;
-    while i < list.len() {
-        left = word(log, p + 4 * i, list[i], left);
-        i += 1;
+    for (i, z) in list.iter().enumerate() {
+        left = word(log, p + 4 * i, *z, left);
     }
     left
 }
@@ -120,18 +113,27 @@ fn word(log: &mut [u8], p: usize, z: i32, allowed: usize) -> usize
     requires { 3 + p < length log.old }
     ensures { Ran allowed (writes p (bytes_word z)) log.old result log.new }
 {
-    let n = endian::bits(z) as usize;
-    let left = pair(log, p, n % 65536, allowed);
-    pair(log, p + 2, n / 65536, left)
+    bytes(log, p, &z.to_le_bytes(), allowed)
 }
 
 // Stores a number in two bytes. How many stores are left.
-fn pair(log: &mut [u8], p: usize, n: usize, allowed: usize) -> usize
+fn pair(log: &mut [u8], p: usize, n: u16, allowed: usize) -> usize
     requires { 1 + p < length log.old }
     ensures { Ran allowed (writes p (bytes_pair n)) log.old result log.new }
 {
-    let left = byte(log, p, (n % 256) as u8, allowed);
-    byte(log, p + 1, (n / 256 % 256) as u8, left)
+    bytes(log, p, &n.to_le_bytes(), allowed)
+}
+
+// Stores bytes from a place on. How many stores are left.
+fn bytes(log: &mut [u8], p: usize, list: &[u8], allowed: usize) -> usize
+    requires { p + length list.now ≤ length log.old }
+    ensures { Ran allowed (writes p list.now) log.old result log.new }
+{
+    let mut left = allowed;
+    for (i, x) in list.iter().enumerate() {
+        left = byte(log, p + i, *x, left);
+    }
+    left
 }
 
 // Stores a byte if a store is left. How many are left then.

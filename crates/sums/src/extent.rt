@@ -68,9 +68,9 @@ fn turning(list: &[i32], d: Point, from: usize, to: usize) -> usize
         let middle = low + (high - low) / 2;
         if goes_on(list, d, middle) {
             low = middle + 1;
-            continue;
+        } else {
+            high = middle;
         }
-        high = middle;
     }
     low
 }

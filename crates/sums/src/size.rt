@@ -9,6 +9,7 @@ ghost use Rattle.polygon.specs.Point.{at};
 ghost use Rattle.sums.specs.Advance.{state, side_of, next_corners, Walked};
 ghost use Rattle.sums.specs.Size.{Reckoned};
 
+use crate::walk::Partway;
 use crate::{extent, walk};
 use calipers::{edges, side};
 use polygon::point::Point;
@@ -33,10 +34,7 @@ pub fn reckon(a: &[i32], b: &[i32], room: usize) -> usize
 pub fn suffices(most: usize, room: usize) -> bool
     ensures { result ≡ true → (most ≤ max_corners) × (2 * most ≤ room) }
 {
-    if limits::exceeds_corners(most) {
-        return false;
-    }
-    most <= room / 2
+    !limits::exceeds_corners(most) && most <= room / 2
 }
 
 // Returns how many corners a walk would write that goes on from a place: k of them or what remains, whichever is less.
@@ -64,17 +62,9 @@ pub fn count_on(a: &[i32], b: &[i32], i: usize, j: usize, k: usize) -> usize
     }
 }
 
-// How far a count came: the corners that were counted, and the edges of each shape that are passed.
-#[derive(Clone, Copy)]
-struct Tally {
-    count: usize,
-    first: usize,
-    second: usize,
-}
-
 // Counts ahead where the shapes have corners in like numbers. Where one has few, a branch on the order of edges can be
 // predicted, and the count of sides is quicker.
-fn begin(a: &[i32], b: &[i32], i: usize, j: usize, k: usize) -> Tally
+fn begin(a: &[i32], b: &[i32], i: usize, j: usize, k: usize) -> Partway<usize>
     requires { At a.now b.now (state i j false) × (0 < k) }
     ensures { Walked a.now b.now (state i j false) k result.count
         (side_of a.now result.first) (side_of b.now result.second) }
@@ -82,7 +72,7 @@ fn begin(a: &[i32], b: &[i32], i: usize, j: usize, k: usize) -> Tally
     if are_alike(corners::count(a), corners::count(b)) {
         return skim(a, b, i, j, k);
     }
-    Tally {
+    Partway {
         count: 0,
         first: i,
         second: j,
@@ -96,7 +86,7 @@ fn are_alike(m: usize, n: usize) -> bool {
 
 // Counts as long as both shapes have three edges left and more than one corner may be counted. Both edges are read at
 // every step, and no branch hangs on their order: it cannot be predicted.
-fn skim(a: &[i32], b: &[i32], i: usize, j: usize, k: usize) -> Tally
+fn skim(a: &[i32], b: &[i32], i: usize, j: usize, k: usize) -> Partway<usize>
     requires { At a.now b.now (state i j false) × (0 < k) }
     ensures { Walked a.now b.now (state i j false) k result.count
         (side_of a.now result.first) (side_of b.now result.second) }
@@ -112,7 +102,7 @@ fn skim(a: &[i32], b: &[i32], i: usize, j: usize, k: usize) -> Tally
         first = one_more(first, c < 0);
         second = one_more(second, 0 < c);
     }
-    Tally {
+    Partway {
         count,
         first,
         second,
@@ -144,13 +134,7 @@ pub fn has_room(a: &[i32], b: &[i32], i: usize, j: usize, k: usize, room: usize)
         × (result ≡ false → room < 2 * length (next_corners a.now b.now (state i j false) k)) }
 {
     let most = room / 2;
-    if k <= most {
-        return true;
-    }
-    if corners::count(a) + corners::count(b) <= most {
-        return true;
-    }
-    count_on(a, b, i, j, k) <= most
+    k <= most || corners::count(a) + corners::count(b) <= most || count_on(a, b, i, j, k) <= most
 }
 
 // Returns whether a corner of the sum is out of range.

@@ -10,6 +10,7 @@ ghost use Rattle.calipers.specs.Side.{walk_of};
 ghost use Rattle.sums.specs.PlaceAfter.{is_place};
 ghost use Rattle.sums.specs.PlaceTest.{ends as place_test_ends, follows as place_test_follows};
 
+use calipers::round::{Plain, Round};
 use calipers::side::Side;
 use calipers::{edges, side};
 use polygon::corners;
@@ -36,8 +37,26 @@ pub fn walk_on(a: &[i32], b: &[i32], i: usize, j: usize, k: usize, out: &mut [i3
         × (out.new ≡ overwritten (numbers (next_corners a.now b.now (state i j false) k))
         out.old) }
 {
+    walk_round(a, &Plain { list: b }, i, j, k, out)
+}
+
+// The same where the second shape is read by its own functions: as its list has it, or as its mirror image.
+pub fn walk_round<R: Round>(
+    a: &[i32],
+    b: &R,
+    i: usize,
+    j: usize,
+    k: usize,
+    out: &mut [i32],
+) -> Advance
+    requires { R.ready b.now × At a.now (R.shape b.now) (state i j false) × (0 < k)
+        × (2 * length (next_corners a.now (R.shape b.now) (state i j false) k) ≤ length out.old) }
+    ensures { Advanced a.now (R.shape b.now) (state i j false) k result
+        × (out.new ≡ overwritten (numbers (next_corners a.now (R.shape b.now) (state i j false) k))
+        out.old) }
+{
     let first = side::side_at(a, i);
-    let second = side::side_at(b, j);
+    let second = b.side_at(j);
     let all = first.end + second.end;
     let far = stride(a, b, k, first, second, out);
     let mut s = far.first;
@@ -48,7 +67,7 @@ pub fn walk_on(a: &[i32], b: &[i32], i: usize, j: usize, k: usize, out: &mut [i3
         count += 1;
         let c = side::order(s, t);
         s = side::next(a, s, c < 0);
-        t = side::next(b, t, 0 < c);
+        t = b.next(t, 0 < c);
         if s.at + t.at == all {
             return arrived(count, s, t, true);
         }
@@ -58,22 +77,24 @@ pub fn walk_on(a: &[i32], b: &[i32], i: usize, j: usize, k: usize, out: &mut [i3
     }
 }
 
-// The sides to which a walk came, and the corners that were written.
+// How far a walk under way came: the corners that were written or counted, and of each shape the side, or how many
+// edges are passed.
 #[derive(Clone, Copy)]
-struct Partway {
-    count: usize,
-    first: Side,
-    second: Side,
+pub struct Partway<T> {
+    pub count: usize,
+    pub first: T,
+    pub second: T,
 }
 
 // Goes on as long as both shapes have three edges left and more than one corner may be written, and writes the corners
 // on its way at the front of the output. No step tests for the end of a shape: that is quicker.
-fn stride(a: &[i32], b: &[i32], k: usize, s: Side, t: Side, out: &mut [i32]) -> Partway
-    requires { Walked a.now b.now (walk_of s t false) k 0 s t
-        × (2 * length (next_corners a.now b.now (walk_of s t false) k) ≤ length out.old) }
-    ensures { Walked a.now b.now (walk_of s t false) k result.count result.first result.second
+fn stride<R: Round>(a: &[i32], b: &R, k: usize, s: Side, t: Side, out: &mut [i32]) -> Partway<Side>
+    requires { R.ready b.now × (t.end < 2 ^ 62)
+        × Walked a.now (R.shape b.now) (walk_of s t false) k 0 s t
+        × (2 * length (next_corners a.now (R.shape b.now) (walk_of s t false) k) ≤ length out.old) }
+    ensures { Walked a.now (R.shape b.now) (walk_of s t false) k result.count result.first result.second
         × (out.new
-        ≡ overwritten (numbers (take result.count (next_corners a.now b.now (walk_of s t false) k)))
+        ≡ overwritten (numbers (take result.count (next_corners a.now (R.shape b.now) (walk_of s t false) k)))
         out.old) }
 {
     let mut first = s;
@@ -84,7 +105,7 @@ fn stride(a: &[i32], b: &[i32], k: usize, s: Side, t: Side, out: &mut [i32]) -> 
         count += 1;
         let c = side::order(first, second);
         first = side::ahead(a, first, c < 0);
-        second = side::ahead(b, second, 0 < c);
+        second = b.ahead(second, 0 < c);
     }
     Partway {
         count,
@@ -99,13 +120,7 @@ pub fn inside(i: usize, m: usize, j: usize, n: usize, count: usize, k: usize) ->
     requires { (i < 2 ^ 63) × (j < 2 ^ 63) × (count < 2 ^ 63) }
     ensures { result ≡ true → (i + 2 < m) × (j + 2 < n) × (count + 1 < k) }
 {
-    if m <= i + 2 {
-        return false;
-    }
-    if n <= j + 2 {
-        return false;
-    }
-    count + 1 < k
+    i + 2 < m && j + 2 < n && count + 1 < k
 }
 
 // Returns the walk at these two sides, with `count` corners written.
@@ -146,13 +161,7 @@ pub fn is_place(a: &[i32], b: &[i32], i: usize, j: usize, over: bool) -> bool
 fn ends(left: usize, all: usize, over: bool) -> bool
     ensures { result ≡ place_test_ends left all over }
 {
-    if all == 0 {
-        return true;
-    }
-    if over {
-        return left == 0;
-    }
-    0 < left
+    all == 0 || over == (left == 0)
 }
 
 // Whether the last edge passed of a shape, if there is one, is before the next of the other, if there is one.

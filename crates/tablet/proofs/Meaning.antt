@@ -2,6 +2,7 @@
 --     one reading     accepted exactly if finite, whole and in range; never rounded; what goes back; each refusal exactly for its reason;
 --                     scaling eighths
 --     a corner        accepted exactly if both readings are; the table, in its order; each refusal exactly for its reason; what goes back
+use Rattle.std.specs.Prelude.{Ok, Err}
 use Rattle.std.specs.Prelude.{◌≡◌, ℕ, ◌≤◌, true, false, T, List, [], ◌∷◌, ℤ, pos, negsuc, ◌*ℤ◌, refl, Float}
 use Rattle.std.proofs.Common.{ap, subst}
 use Rattle.std.specs.Float.{fin, binary64}
@@ -18,53 +19,53 @@ use Rattle.tablet.proofs.theory.Refused.{Comes, comes, not-finite-comes, not-who
 use Rattle.tablet.proofs.theory.Corner.{corner-read, read-corner}
 use Rattle.tablet.specs.declared.reading.Reading.{Reading}
 use Rattle.tablet.specs.declared.reading.Reading.TheVariants.{Millimetres, Eighths}
-use Rattle.tablet.specs.declared.reading.Read.TheVariants.{Whole, NotFinite, NotWhole, Far}
+use Rattle.tablet.specs.declared.reading.Fault.TheVariants.{NotFinite, NotWhole, Far}
 
 -- ---- one reading
 
 module _ (r : Reading) (n : ℤ) where
   -- "Accept it exactly if it is finite, its exact value in millimetres is whole, and it is in range": what is accepted as n is finite and
   -- in range, and its exact value is n
-  pub accepted-exactly : read_as r ≡ Whole n → (finite (double r) ≡ true) × (top r ≡ n *ℤ pos (bottom r)) × Within max_coordinate n
+  pub accepted-exactly : read_as r ≡ Ok n → (finite (double r) ≡ true) × (top r ≡ n *ℤ pos (bottom r)) × Within max_coordinate n
   accepted-exactly h = whole-value r n h
 
   -- and what is finite, has the exact value n and is in range is accepted as n
-  pub exactly-accepted : finite (double r) ≡ true → top r ≡ n *ℤ pos (bottom r) → Within max_coordinate n → read_as r ≡ Whole n
+  pub exactly-accepted : finite (double r) ≡ true → top r ≡ n *ℤ pos (bottom r) → Within max_coordinate n → read_as r ≡ Ok n
   exactly-accepted f h w = value-whole r n f h w
 
   -- "never round": readings that are accepted alike have equal exact values
-  pub never-rounded : (t : Reading) → read_as r ≡ Whole n → read_as t ≡ Whole n → top r *ℤ pos (bottom t) ≡ top t *ℤ pos (bottom r)
+  pub never-rounded : (t : Reading) → read_as r ≡ Ok n → read_as t ≡ Ok n → top r *ℤ pos (bottom t) ≡ top t *ℤ pos (bottom r)
   never-rounded t h k = values-equal r t n (whole-value r n h).1 (whole-value t n k).1
 
   -- "a pair of doubles that hold exactly the whole numbers": what goes back is finite, and its exact value is n
-  pub sent-back-exactly : read_as r ≡ Whole n
+  pub sent-back-exactly : read_as r ≡ Ok n
       → (finite (holding n) ≡ true) × (top (Millimetres (holding n)) ≡ n *ℤ pos (bottom (Millimetres (holding n))))
   sent-back-exactly h = held-value n (whole-value r n h).2
 
 -- millimetres and eighths alike
 module _ (r : Reading) where
   -- "Refuse 17 for a value that is not finite": only such a value
-  pub seventeen-is-not-finite : read_as r ≡ NotFinite → finite (double r) ≡ false
+  pub seventeen-is-not-finite : read_as r ≡ Err NotFinite → finite (double r) ≡ false
   seventeen-is-not-finite h = subst (Comes r) h (comes r)
 
   -- and every such value
-  pub not-finite-is-seventeen : finite (double r) ≡ false → read_as r ≡ NotFinite
+  pub not-finite-is-seventeen : finite (double r) ≡ false → read_as r ≡ Err NotFinite
   not-finite-is-seventeen f = not-finite-comes r f
 
   -- "18 if not whole": only a finite reading whose exact value in millimetres is no whole number
-  pub eighteen-is-not-whole : read_as r ≡ NotWhole → (finite (double r) ≡ true) × ((z : ℤ) → Equals r z → ⊥)
+  pub eighteen-is-not-whole : read_as r ≡ Err NotWhole → (finite (double r) ≡ true) × ((z : ℤ) → Equals r z → ⊥)
   eighteen-is-not-whole h = subst (Comes r) h (comes r)
 
   -- and every such reading, in range or not
-  pub not-whole-is-eighteen : finite (double r) ≡ true → ((z : ℤ) → Equals r z → ⊥) → read_as r ≡ NotWhole
+  pub not-whole-is-eighteen : finite (double r) ≡ true → ((z : ℤ) → Equals r z → ⊥) → read_as r ≡ Err NotWhole
   not-whole-is-eighteen f none = not-whole-comes r f none
 
   -- "then 3 for range": only a finite reading whose exact value is a whole number out of range
-  pub three-is-out-of-range : read_as r ≡ Far → (finite (double r) ≡ true) × (z : ℤ) × Equals r z × (Within max_coordinate z → ⊥)
+  pub three-is-out-of-range : read_as r ≡ Err Far → (finite (double r) ≡ true) × (z : ℤ) × Equals r z × (Within max_coordinate z → ⊥)
   three-is-out-of-range h = subst (Comes r) h (comes r)
 
   -- and every such reading
-  pub out-of-range-is-three : finite (double r) ≡ true → (z : ℤ) → Equals r z → (Within max_coordinate z → ⊥) → read_as r ≡ Far
+  pub out-of-range-is-three : finite (double r) ≡ true → (z : ℤ) → Equals r z → (Within max_coordinate z → ⊥) → read_as r ≡ Err Far
   out-of-range-is-three f z e out = far-comes r f z e out
 
 -- "Minus zero is 0, sent back as plus zero"
@@ -83,10 +84,10 @@ scaling-loses-nothing v t f h = scaled_value v t f h
 
 module _ (x y : Reading) where
   -- a corner is accepted exactly if both readings are, and its numbers are theirs
-  pub accepted-corner-is-read : (m n : ℤ) → tablet_reply x y ≡ answered (m ∷ n ∷ []) → (read_as x ≡ Whole m) × (read_as y ≡ Whole n)
+  pub accepted-corner-is-read : (m n : ℤ) → tablet_reply x y ≡ answered (m ∷ n ∷ []) → (read_as x ≡ Ok m) × (read_as y ≡ Ok n)
   accepted-corner-is-read m n h = corner-read x y m n h
 
-  pub read-corner-is-accepted : (m n : ℤ) → read_as x ≡ Whole m → read_as y ≡ Whole n → tablet_reply x y ≡ answered (m ∷ n ∷ [])
+  pub read-corner-is-accepted : (m n : ℤ) → read_as x ≡ Ok m → read_as y ≡ Ok n → tablet_reply x y ≡ answered (m ∷ n ∷ [])
   read-corner-is-accepted m n h k = read-corner x y m n h k
 
   -- "Send each accepted corner back as a pair of doubles"; a refusal "gives nothing else"

@@ -7,14 +7,15 @@
 --     tablet_reply x y           "x is judged wholly before y, and a refusal says which of them it was and gives nothing else"
 --     tablet_sent x y            the reply, and the doubles that go back: none on a refusal
 -- What it means: `accepted-exactly`, `exactly-accepted`, `never-rounded`, `sent-back-exactly` and the tables of `Meaning.antt`.
+use Rattle.std.specs.Prelude.{Result, Ok, Err}
 use Rattle.std.specs.Prelude.{ℕ, ◌*◌, ◌/◌, ◌%◌, Bool, cond, not, List, [], ◌∷◌, ◌++◌, map, ℤ, ◌==◌, Float}
 use Rattle.plane.specs.Reply.{Reply, answered, refused, Row, row, first_row}
 use Rattle.plane.specs.Refusal.{outside}
 use Rattle.tablet.specs.Double.{finite, negative, over, under, signed, holding}
 use Rattle.tablet.specs.declared.reading.Reading.{Reading}
 use Rattle.tablet.specs.declared.reading.Reading.TheVariants.{Millimetres, Eighths}
-use Rattle.tablet.specs.declared.reading.Read.{Read}
-use Rattle.tablet.specs.declared.reading.Read.TheVariants.{Whole, NotFinite, NotWhole, Far}
+use Rattle.tablet.specs.declared.reading.Fault.{Fault}
+use Rattle.tablet.specs.declared.reading.Fault.TheVariants.{NotFinite, NotWhole, Far}
 
 -- "either millimetres or eighths of a millimetre, each carrying its own double"
 abbrev pub double : Reading → Float
@@ -48,8 +49,8 @@ unfoldable pub far : Reading → Bool
 far r = outside (whole_number r)
 
 -- "Refuse 17 .., 18 .., then 3 .., in that order"
-unfoldable pub read_as : Reading → Read
-read_as r = cond (not_finite r) NotFinite (cond (not_whole r) NotWhole (cond (far r) Far (Whole (whole_number r))))
+unfoldable pub read_as : Reading → Result ℤ Fault
+read_as r = cond (not_finite r) (Err NotFinite) (cond (not_whole r) (Err NotWhole) (cond (far r) (Err Far) (Ok (whole_number r))))
 
 abbrev pub reading_rows : ℕ → Reading → List Row
 reading_rows part r = row 17 (not_finite r) (part ∷ []) ∷ row 18 (not_whole r) (part ∷ []) ∷ row 3 (far r) (part ∷ []) ∷ []

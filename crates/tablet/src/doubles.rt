@@ -13,10 +13,7 @@ pub fn is_finite(v: f64) -> bool
     ensures { result ≡ finite v }
 {
     let infinity = f64::from_bits(INFINITY);
-    if v < infinity {
-        return -infinity < v;
-    }
-    false
+    v < infinity && -infinity < v
 }
 
 // Whether v is a whole number: from 2^53 upward every double is, below that one that is equal to its whole part.
@@ -24,10 +21,8 @@ pub fn is_whole(v: f64) -> bool
     requires { T (fits binary64 v) × (finite v ≡ true) }
     ensures { result ≡ whole v }
 {
-    if -9007199254740992.0 < v {
-        if v < 9007199254740992.0 {
-            return std::num::nearest_i64_to_f64(std::num::truncating_f64_to_i64(v)) == v;
-        }
+    if -9007199254740992.0 < v && v < 9007199254740992.0 {
+        return std::num::nearest_i64_to_f64(std::num::truncating_f64_to_i64(v)) == v;
     }
     true
 }
@@ -36,12 +31,7 @@ pub fn is_whole(v: f64) -> bool
 pub fn is_small(v: f64) -> bool
     ensures { result ≡ small v }
 {
-    if -1.0 < v {
-        if v < 1.0 {
-            return v != 0.0;
-        }
-    }
-    false
+    -1.0 < v && v < 1.0 && v != 0.0
 }
 
 // Whether v is less than 2^31 in size.
@@ -49,10 +39,7 @@ pub fn is_short(v: f64) -> bool
     requires { finite v ≡ true }
     ensures { result ≡ short v }
 {
-    if -2147483648.0 < v {
-        return v < 2147483648.0;
-    }
-    false
+    -2147483648.0 < v && v < 2147483648.0
 }
 
 // A whole number of less than 2^31 as an integer. Minus zero, which the cast does not take, is 0.

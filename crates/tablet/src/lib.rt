@@ -11,12 +11,12 @@ ghost use Rattle.tablet.specs.Reading.{read_as};
 ghost use Rattle.tablet.specs.declared.reading.Reading.TheVariants.{Millimetres, Eighths};
 
 use polygon::limits;
-use reading::{Read, Reading};
+use reading::{Fault, Reading};
 
 // The whole number of millimetres that a reading holds exactly; minus zero is 0. Refused: a NaN or an infinity, then
 // what is not whole, then what is out of range.
 // Ruled out: scaled before the test; whole after range.
-pub fn read(reading: Reading) -> Read
+pub fn read(reading: Reading) -> Result<i32, Fault>
     ensures { result ≡ read_as reading }
 {
     match reading {
@@ -27,35 +27,35 @@ pub fn read(reading: Reading) -> Read
 
 // A reading in eighths. Scaled by 0.125 it loses nothing from magnitude 1 upward, and 0 stays 0. What lies between is
 // less than an eighth of a millimetre and not whole; near 0 its eighth would be rounded.
-fn of_eighths(v: f64) -> Read
+fn of_eighths(v: f64) -> Result<i32, Fault>
     requires { T (fits binary64 v) }
     ensures { result ≡ read_as (Eighths v) }
 {
     if doubles::is_small(v) {
-        return Read::NotWhole;
+        return Err(Fault::NotWhole);
     }
     of_millimetres(v * 0.125)
 }
 
 // A reading in millimetres.
-fn of_millimetres(v: f64) -> Read
+fn of_millimetres(v: f64) -> Result<i32, Fault>
     requires { T (fits binary64 v) }
     ensures { result ≡ read_as (Millimetres v) }
 {
     if !doubles::is_finite(v) {
-        return Read::NotFinite;
+        return Err(Fault::NotFinite);
     }
     if !doubles::is_whole(v) {
-        return Read::NotWhole;
+        return Err(Fault::NotWhole);
     }
     if !doubles::is_short(v) {
-        return Read::Far;
+        return Err(Fault::Far);
     }
     let n = doubles::number(v);
     if limits::outside(n) {
-        return Read::Far;
+        return Err(Fault::Far);
     }
-    Read::Whole(n)
+    Ok(n)
 }
 
 // The double that holds a whole number of 32 bits exactly; of 0 it is plus zero.

@@ -1,4 +1,4 @@
-// What the surveyor's tablet sends, and what a reading comes to.
+// What the surveyor's tablet sends, and why a reading is refused.
 
 // A reading (document 02, W4): "either millimetres or eighths of a millimetre, each carrying its own double".
 #[derive(Clone, Copy)]
@@ -7,13 +7,12 @@ pub enum Reading {
     Eighths(f64),
 }
 
-// The whole number of millimetres that a reading is, or why it is refused.
+// Why a reading is refused.
 #[derive(Clone, Copy)]
-pub enum Read {
-    Whole(i32),
+pub enum Fault {
     // 17: not finite
     NotFinite,
-    // 18: not whole
+    // 18: not a whole number of millimetres
     NotWhole,
     // 3: out of range
     Far,

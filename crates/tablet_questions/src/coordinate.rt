@@ -1,24 +1,17 @@
 // Inner functions: a reading of the tablet judged before its corner is answered.
+ghost use Rattle.std.specs.Prelude.{◌≡◌};
 ghost use Rattle.tablet_questions.specs.Coordinate.{Coordinated};
 
-use answers::Unread;
-use tablet::reading::{Read, Reading};
+use answers::{Axis, Unread};
+use tablet::reading::Reading;
 
-// The whole number of a reading, or its refusal.
-#[derive(Clone, Copy)]
-pub enum Coordinate {
-    Whole(i32),
-    No(Unread),
-}
-
-// Judges a reading that is the part x, 1, or y, 2, of a corner: refusals 17, 18 and 3 in this order.
-pub fn read_part(reading: Reading, part: usize) -> Coordinate
-    ensures { Coordinated part reading result }
+// Returns the whole number of a reading, or its refusal: 17, 18 and 3 in this order.
+pub fn read_part(reading: Reading, axis: Axis) -> Result<i32, Unread>
+    ensures { Coordinated axis reading result }
 {
-    match tablet::read(reading) {
-        Read::Whole(n) => Coordinate::Whole(n),
-        Read::NotFinite => Coordinate::No(Unread::NotFinite { part }),
-        Read::NotWhole => Coordinate::No(Unread::NotWhole { part }),
-        Read::Far => Coordinate::No(Unread::Far { part }),
-    }
+    tablet::read(reading).map_err(
+        |fault| -> Unread
+            ensures { result ≡ record { axis = axis; fault = fault } }
+        { Unread { axis, fault } },
+    )
 }

@@ -7,8 +7,7 @@ ghost use Rattle.std.specs.Prelude.{◌≡◌};
 ghost use Rattle.tablet.specs.Reading.{tablet_sent};
 ghost use Rattle.answers.specs.Answer.{of_tablet};
 
-use answers::{Sent, Tablet};
-use coordinate::Coordinate;
+use answers::{Axis, Corner, Sent, Unread};
 use tablet::reading::Reading;
 
 // A corner of two readings of the tablet, each in millimetres or in eighths: the doubles that go back, and the whole
@@ -16,21 +15,17 @@ use tablet::reading::Reading;
 // is rounded. Refused, with the part that it was: x, then y, each if it is not finite, then if it is not whole, then if
 // it is out of range.
 // Ruled out: x blamed for y; y judged first; whole after range; minus zero sent back; scaled before the test.
-pub fn tablet(x: Reading, y: Reading) -> Tablet
+pub fn tablet(x: Reading, y: Reading) -> Result<Corner, Unread>
     ensures { of_tablet result ≡ tablet_sent x y }
 {
-    match coordinate::read_part(x, 1) {
-        Coordinate::No(refusal) => Tablet::No(refusal),
-        Coordinate::Whole(m) => match coordinate::read_part(y, 2) {
-            Coordinate::No(refusal) => Tablet::No(refusal),
-            Coordinate::Whole(n) => Tablet::Corner {
-                sent: Sent {
-                    x: tablet::double(m),
-                    y: tablet::double(n),
-                },
-                x: m,
-                y: n,
-            },
+    let m = coordinate::read_part(x, Axis::X)?;
+    let n = coordinate::read_part(y, Axis::Y)?;
+    Ok(Corner {
+        sent: Sent {
+            x: tablet::double(m),
+            y: tablet::double(n),
         },
-    }
+        x: m,
+        y: n,
+    })
 }

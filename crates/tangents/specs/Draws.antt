@@ -7,9 +7,9 @@
 --     Undrawn s forward ps q i       nor does the corner beside corner i on that way round
 --     Came s forward ps q from i     i is where a walk began, or a corner that draws away from the one before it on that way round
 --     Slid s forward ps q from i     both: where a walk comes to an end
---     Better s ps i q k     k is i, which rests, or a corner that draws away from i
+--     Better s ps i q r     r is a corner that draws away from i, or none, and then i rests
 --     Ready l i q      corner i of a valid list, and a point that it faces, small enough for the code
-use Rattle.std.specs.Prelude.{◌≡◌, Bool, true, false, not, ◌&&◌, ◌||◌, List, ℕ, ◌^◌, ◌<◌, ℤ, pos, length, ◌<ℤ◌}
+use Rattle.std.specs.Prelude.{◌≡◌, Bool, true, false, not, ◌&&◌, ◌||◌, Option, Some, None, List, ℕ, ◌^◌, ◌<◌, ℤ, pos, length, ◌<ℤ◌}
 use Rattle.std.specs.Int.Signed.{lt_z}
 use Rattle.plane.specs.Point.{Point, points, corner, ◌⊖◌}
 use Rattle.plane.specs.Refusal.{Valid}
@@ -49,10 +49,9 @@ pub record Slid (s forward : Bool) (ps : List Point) (q : Point) (from i : ℕ) 
   pub ends : Undrawn s forward ps q i
   pub came : Came s forward ps q from i
 
-pub record Better (s : Bool) (ps : List Point) (i : ℕ) (q : Point) (k : ℕ) : Type 0 where
-  pub within : k < length ps
-  pub rests : k ≡ i → Rests s ps i q
-  pub drawn : (k ≡ i → ⊥) → draws s (corner ps i) q (corner ps k) ≡ true
+abbrev pub Better : Bool → List Point → ℕ → Point → Option ℕ → Type 0
+Better s ps i q (Some k) = (k < length ps) × (draws s (corner ps i) q (corner ps k) ≡ true)
+Better s ps i q None = Rests s ps i q
 
 pub record Ready (l : List ℤ) (i : ℕ) (q : Point) : Type 0 where
   pub valid : Valid l

@@ -36,15 +36,13 @@ pub fn tangent(a: &[i32], b: &[i32], near: Line, s: bool, t: bool) -> Line
 {
     let mut from = near.from;
     let mut to = near.to;
-    let mut turns = 0;
-    while turns < TURNS {
+    for _ in 0..TURNS {
         from = rest::settle(a, from, corners::corner_at(b, to), s, !s);
         let end = rest::settle(b, to, corners::corner_at(a, from), !t, t);
         if end == to {
             return Line { from, to };
         }
         to = end;
-        turns += 1;
     }
     searched(a, b, s, t)
 }
@@ -58,11 +56,12 @@ fn searched(a: &[i32], b: &[i32], s: bool, t: bool) -> Line
 {
     let mut from = 0;
     let mut to = 0;
+    // A loop, and no range: some corner rests, so that nothing is left to return after the last one.
     loop {
         from = rest::settle(a, from, corners::corner_at(b, to), s, true);
-        if rest::better(b, to, corners::corner_at(a, from), !t) == to {
+        let Some(_) = rest::better(b, to, corners::corner_at(a, from), !t) else {
             return Line { from, to };
-        }
+        };
         to += 1;
     }
 }

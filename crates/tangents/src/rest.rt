@@ -45,26 +45,27 @@ fn beside(n: usize, i: usize, forward: bool) -> usize
     ensures { (result < n) × Beside forward n i result }
 {
     if forward {
-        return rules::next(n, i);
+        rules::next(n, i)
+    } else {
+        previous(n, i)
     }
-    previous(n, i)
 }
 
-// A neighbour of corner i that draws the start of the line to q away from it; i itself where it rests.
-pub fn better(list: &[i32], i: usize, q: Point, s: bool) -> usize
+// A neighbour of corner i that draws the start of the line to q away from it; none where it rests.
+pub fn better(list: &[i32], i: usize, q: Point, s: bool) -> Option<usize>
     requires { Ready list.now i (at q) }
     ensures { Better s (points list.now) i (at q) result }
 {
     let n = corners::count(list);
     let after = rules::next(n, i);
     if drawn(list, i, after, q, s) {
-        return after;
+        return Some(after);
     }
     let before = previous(n, i);
     if drawn(list, i, before, q, s) {
-        return before;
+        return Some(before);
     }
-    i
+    None
 }
 
 // Whether corner k draws the start of the line to q away from corner i.

@@ -1,10 +1,18 @@
--- The numbers of 32 bits that a sign and digits stand for.
---     signed_of negative n    the number of size n with this sign, if 32 bits hold it
-use Rattle.std.specs.Prelude.{ℕ, Bool, true, false, cond, ltb, leb, pos, neg_ℤ}
-use Rattle.text.specs.declared.numbers.Value.{Value}
-use Rattle.text.specs.declared.numbers.Value.TheVariants.{Fits, Wide}
+-- The numbers of 32 bits that words stand for.
+--     number_of word              the number of a word: decimal digits, with a minus before them or none
+--     signed_number negative ds   the number of digits with this sign
+--     signed_of negative n        the number of size n with this sign, if 32 bits hold it
+use Rattle.std.specs.Prelude.{ℕ, ℤ, Bool, true, false, cond, ltb, leb, pos, neg_ℤ, Option, Some, None, List, length, drop, ◌&&◌}
+use Rattle.std.specs.Str.{all_ascii_digits}
+use Rattle.std.specs.Str.Parse.{starts_with_minus, digits_value}
 
 -- -0 is 0
-abbrev pub signed_of : Bool → ℕ → Value
-signed_of false n = cond (ltb n 2147483648) (Fits (pos n)) Wide
-signed_of true n = cond (leb n 2147483648) (Fits (neg_ℤ (pos n))) Wide
+abbrev pub signed_of : Bool → ℕ → Option ℤ
+signed_of false n = cond (ltb n 2147483648) (Some (pos n)) None
+signed_of true n = cond (leb n 2147483648) (Some (neg_ℤ (pos n))) None
+
+abbrev pub signed_number : Bool → List ℕ → Option ℤ
+signed_number negative ds = cond (all_ascii_digits ds && ltb 0 (length ds)) (signed_of negative (digits_value 10 ds)) None
+
+abbrev pub number_of : List ℕ → Option ℤ
+number_of word = cond (starts_with_minus word) (signed_number true (drop 1 word)) (signed_number false word)

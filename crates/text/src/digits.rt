@@ -1,14 +1,14 @@
 // Digits of numbers.
-ghost use Rattle.std.specs.Prelude.{◌≤◌};
+ghost use Rattle.std.specs.Prelude.{◌<◌, IfSome};
 
-// Returns what a hexadecimal digit counts, in small letters or large; 16 for any other character.
-pub fn value(byte: u8) -> u64
-    ensures { result ≤ 16 }
+// Returns what a hexadecimal digit counts, in small letters or large.
+pub fn hexadecimal(byte: u8) -> Option<u8>
+    ensures { IfSome result (λ digit. digit < 16) }
 {
     match byte {
-        b'0'..=b'9' => (byte - b'0') as u64,
-        b'A'..=b'F' => (byte - b'A') as u64 + 10,
-        b'a'..=b'f' => (byte - b'a') as u64 + 10,
-        _ => 16,
+        b'0'..=b'9' => Some(byte - b'0'),
+        b'A'..=b'F' => Some(byte - b'A' + 10),
+        b'a'..=b'f' => Some(byte - b'a' + 10),
+        _ => None,
     }
 }

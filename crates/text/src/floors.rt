@@ -1,53 +1,24 @@
 // The floor of a shape, which may come before its numbers: a word of an at sign and a number from 0 to 65,535.
-use crate::numbers::Value;
+use crate::words::Words;
 use crate::{numbers, words};
 
 // What a floor begins with.
-const MARK: u8 = b'@';
+const MARK: &[u8] = b"@";
 
-// Floors have 16 bits.
-const GREATEST: u64 = 65535;
-
-// The floor that a text says, or that its first word should be one and is not.
-#[derive(Clone, Copy)]
-pub enum Floor {
-    On(u16),
-    Wrong,
-}
-
-// Returns the floor that the text of a field says; 0 if it says none.
-pub fn read(text: &[u8]) -> Floor {
-    let word = words::first(text);
-    if !is_marked(word) {
-        return Floor::On(0);
-    }
-    match numbers::number(words::between(word, 1, word.len())) {
-        Value::Fits(number) => of_number(number),
-        Value::Wide => Floor::Wrong,
+// Returns the floor that the text of a field says, 0 if it says none; nothing if its first word should be a floor and
+// is not.
+pub fn read(text: &[u8]) -> Option<u16> {
+    match words::first(text).strip_prefix(MARK) {
+        Some(number) => u16::try_from(numbers::number(number)?).ok(),
+        None => Some(0),
     }
 }
 
-// Returns what the text of a field says after the floor.
-pub fn after(text: &[u8]) -> &[u8] {
-    if !is_marked(words::first(text)) {
-        return text;
+// Returns the words of a text after the floor.
+pub fn after(text: &[u8]) -> Words<'_> {
+    let mut words = words::of(text);
+    if words::first(text).starts_with(MARK) {
+        let _ = words.next();
     }
-    words::between(text, words::first_end(text), text.len())
-}
-
-// Whether a word should be a floor.
-fn is_marked(word: &[u8]) -> bool {
-    if 0 < word.len() {
-        return word[0] == MARK;
-    }
-    false
-}
-
-// Returns the floor of a number.
-fn of_number(number: i32) -> Floor {
-    let floor = numbers::size(numbers::wide(number));
-    if number < 0 || GREATEST < floor {
-        return Floor::Wrong;
-    }
-    Floor::On(floor as u16)
+    words
 }

@@ -1,169 +1,118 @@
-// Lines of standard input. Bytes are read into a chunk, and each line is gathered from there into a buffer of its own.
-// The caller lends both. Lines that begin with # or have nothing but spaces are passed over, and so is a byte order
+// Lines of standard input. Lines that begin with # or have nothing but spaces are passed over, and so is a byte order
 // mark at the start of the input.
-use crate::standard::Input;
-use crate::{output, standard, words};
+use crate::reasons::Reason;
+use crate::standard::{Failure, Patient};
+use crate::words;
+use arrayvec::ArrayVec;
+use std::alloc::Global;
 use std::io;
+use std::io::{BufRead, BufReader, Read, Write};
 
-// How far the reading has come.
-#[derive(Clone, Copy)]
-pub struct Reading {
-    // How many bytes of answers wait to be written.
-    pub filled: usize,
-    // Whether nothing more is read: the input ended or could not be read, or an answer could not be written.
-    pub last: bool,
-    // Whether a line is whole and to be answered, and whether it has more characters than its buffer.
-    pub whole: bool,
-    pub too_long: bool,
-    // Whether a read failed.
-    pub failed: bool,
-    // The bytes of the chunk from `at` up to `end` are read and not yet taken.
-    at: usize,
-    end: usize,
-    // How many bytes of its buffer the line fills, and whether it is the first of the input.
-    length: usize,
+// How many characters a line has, at most, and how many bytes are read at once.
+const CHARACTERS: usize = 65536;
+
+// What belongs to no line.
+const ORDER_MARK: &[u8] = b"\xef\xbb\xbf";
+
+// The lines of an input, and the one at hand.
+#[derive(Drop)]
+pub struct Lines<R> {
+    input: BufReader<Patient<R>>,
+    // Whether nothing more is read.
+    ended: bool,
+    // Whether the line at hand is the first.
     first: bool,
+    line: ArrayVec<u8, CHARACTERS>,
+    // Whether the line has more characters.
+    too_long: bool,
 }
 
-// Returns the start: nothing is read yet.
-pub fn begin() -> Reading {
-    Reading {
-        filled: 0,
-        last: false,
-        whole: false,
-        too_long: false,
-        failed: false,
-        at: 0,
-        end: 0,
-        length: 0,
-        first: true,
+impl<R: Read + Drop> Lines<R> {
+    // Returns the lines of an input of which nothing is read yet.
+    pub fn new(alloc: Global, input: R) -> Result<Self, Failure> {
+        let input = BufReader::with_capacity(alloc, CHARACTERS, Patient(input));
+        Ok(Lines {
+            input: input.map_err(Failure::Read)?,
+            ended: false,
+            first: true,
+            line: ArrayVec::new(),
+            too_long: false,
+        })
     }
-}
 
-// Returns the line at hand, without its newline.
-pub fn text(reading: Reading, line: &[u8]) -> &[u8] {
-    words::between(line, 0, reading.length)
-}
+    // Goes on to the next line that is to be answered, and returns whether there is one. Before anything is waited for,
+    // the answers that `out` holds are written. If the input cannot be read, a part of a line is not answered. A proved
+    // loop has to end, so this one counts its turns, one a byte, up to a number that no run uses up.
+    pub fn advance(&mut self, out: &mut impl Write) -> Result<bool, Failure> {
+        self.begin();
+        for _ in 0..u64::MAX {
+            match self.next_byte(out)? {
+                None => return Ok(!self.is_passed_over()),
+                Some(b'\n') => {
+                    self.first = false;
+                    if !self.is_passed_over() {
+                        return Ok(true);
+                    }
+                    self.begin();
+                }
+                Some(byte) => self.add(byte),
+            }
+        }
+        Ok(false)
+    }
 
-// Begins the next line after an answer, with the count of bytes that wait.
-pub fn answered(mut reading: Reading, filled: usize) -> Reading {
-    reading.filled = filled;
-    anew(reading)
-}
-
-// Takes one byte of the chunk, or reads the next chunk if none is left. Before anything is waited for, the answers that
-// `out` holds are written.
-pub fn take(
-    rt: &(impl io::Input + Print + Eprint),
-    mut reading: Reading,
-    out: &[u8],
-    chunk: &mut [u8],
-    line: &mut [u8],
-) -> Reading {
-    let at = reading.at;
-    if at < reading.end {
-        if at < chunk.len() {
-            reading.at = at + 1;
-            return gather(reading, chunk[at], line);
+    // Returns the line at hand, without its newline, if it is not too long.
+    pub fn text(&self) -> Result<&[u8], Reason> {
+        if self.too_long {
+            Err(Reason::LineTooLong)
+        } else {
+            Ok(self.line.as_slice())
         }
     }
-    read_chunk(rt, write_answers(rt, reading, out), chunk, line)
-}
 
-// Takes a byte into the line, or ends the line.
-fn gather(reading: Reading, byte: u8, line: &mut [u8]) -> Reading {
-    if byte == b'\n' {
-        return end_line(reading, line);
+    // Begins a line.
+    fn begin(&mut self) {
+        self.line.clear();
+        self.too_long = false;
     }
-    pass_mark(store(reading, byte, line), line)
-}
 
-// Stores a byte of the line. A space that finds no room is dropped: all that can follow it is spaces, or something that
-// finds no room itself.
-fn store(mut reading: Reading, byte: u8, line: &mut [u8]) -> Reading {
-    let length = reading.length;
-    if length < line.len() {
-        line[length] = byte;
-        reading.length = length + 1;
-        return reading;
+    // Returns the next byte of the input, or none at its end.
+    fn next_byte(&mut self, out: &mut impl Write) -> Result<Option<u8>, Failure> {
+        if self.input.buffer().is_empty() {
+            out.flush().map_err(Failure::Write)?;
+        }
+        if self.ended {
+            return Ok(None);
+        }
+        let byte = self
+            .input
+            .fill_buf()
+            .map_err(Failure::Read)?
+            .first()
+            .copied();
+        match byte {
+            Some(_) => self.input.consume(1),
+            None => self.ended = true,
+        }
+        Ok(byte)
     }
-    if !words::is_space(byte) {
-        reading.too_long = true;
-    }
-    reading
-}
 
-// Drops a byte order mark at the start of the input, which belongs to no line.
-fn pass_mark(mut reading: Reading, line: &[u8]) -> Reading {
-    if reading.first && reading.length == 3 {
-        if check::same(words::between(line, 0, 3), b"\xef\xbb\xbf") {
-            reading.first = false;
-            reading.length = 0;
+    // Adds a byte to the line. A space that finds no room is dropped: all that can follow it is spaces, or something
+    // that finds no room itself.
+    fn add(&mut self, byte: u8) {
+        if self.line.try_push(byte).is_err() && !words::is_space(byte) {
+            self.too_long = true;
+        }
+        if self.first && self.line.as_slice() == ORDER_MARK {
+            self.first = false;
+            self.line.clear();
         }
     }
-    reading
-}
 
-// Ends the line, which is passed over or is to be answered.
-fn end_line(mut reading: Reading, line: &[u8]) -> Reading {
-    reading.first = false;
-    if is_passed_over(text(reading, line), reading.too_long) {
-        return anew(reading);
-    }
-    reading.whole = true;
-    reading
-}
-
-// Whether a line begins with # or has nothing but spaces. What is kept of a line that is too long may be spaces alone.
-fn is_passed_over(line: &[u8], too_long: bool) -> bool {
-    if check::same(words::between(line, 0, 1), b"#") {
-        return true;
-    }
-    !too_long && words::start(line, 0, false) == line.len()
-}
-
-// Returns the same place with an empty line.
-fn anew(mut reading: Reading) -> Reading {
-    reading.length = 0;
-    reading.too_long = false;
-    reading.whole = false;
-    reading
-}
-
-// Writes the answers that wait. If that fails nothing more is read.
-fn write_answers(rt: &(impl Print + Eprint), mut reading: Reading, out: &[u8]) -> Reading {
-    let filled = output::flush(rt, out, reading.filled);
-    reading.filled = filled;
-    reading.last = filled == output::LOST;
-    reading
-}
-
-// Reads the next chunk. At the end of the input the line at hand is the last; if the input cannot be read, a part of a
-// line is not answered.
-fn read_chunk(
-    rt: &(impl io::Input + Eprint),
-    mut reading: Reading,
-    chunk: &mut [u8],
-    line: &[u8],
-) -> Reading {
-    reading.at = 0;
-    reading.end = 0;
-    if reading.last {
-        return reading;
-    }
-    match standard::read(rt, chunk) {
-        Input::Bytes(count) => {
-            reading.end = count;
-            reading
-        }
-        Input::End => {
-            reading.last = true;
-            end_line(reading, line)
-        }
-        Input::Failed => {
-            reading.last = true;
-            reading.failed = true;
-            reading
-        }
+    // Whether the line begins with # or has nothing but spaces. What is kept of a line that is too long may be spaces
+    // alone.
+    fn is_passed_over(&self) -> bool {
+        let line = self.line.as_slice();
+        line.starts_with(b"#") || !self.too_long && line.iter().all(|byte| words::is_space(*byte))
     }
 }

@@ -1,10 +1,8 @@
-// Why a line is no question, and the answer that says so.
-use crate::output;
+// Why a line is no question.
+use std::fmt;
 
 #[derive(Clone, Copy)]
 pub enum Reason {
-    // The line is a question.
-    Nothing,
     LineTooLong,
     UnknownWord,
     MissingField,
@@ -21,29 +19,25 @@ pub enum Reason {
     NotAFloor,
 }
 
-// Adds the reason, without a newline.
-pub fn unreadable(
-    rt: &(impl Print + Eprint),
-    out: &mut [u8],
-    filled: usize,
-    reason: Reason,
-) -> usize {
-    let begun = output::word(rt, out, filled, b"unreadable: ");
-    match reason {
-        Reason::Nothing => begun,
-        Reason::LineTooLong => output::word(rt, out, begun, b"line too long"),
-        Reason::UnknownWord => output::word(rt, out, begun, b"unknown word"),
-        Reason::MissingField => output::word(rt, out, begun, b"missing field"),
-        Reason::TooManyFields => output::word(rt, out, begun, b"too many fields"),
-        Reason::NotANumber => output::word(rt, out, begun, b"not a number of 32 bits"),
-        Reason::TooManyNumbers => output::word(rt, out, begun, b"too many numbers"),
-        Reason::WrongCount => output::word(rt, out, begun, b"wrong count of numbers"),
-        Reason::NotACount => output::word(rt, out, begun, b"not a count"),
-        Reason::NotAReading => output::word(rt, out, begun, b"not a reading"),
-        Reason::NotBytes => output::word(rt, out, begun, b"not bytes"),
-        Reason::NotAName => output::word(rt, out, begun, b"not a name"),
-        Reason::NotAWalk => output::word(rt, out, begun, b"not a walk"),
-        Reason::NotACall => output::word(rt, out, begun, b"not a call"),
-        Reason::NotAFloor => output::word(rt, out, begun, b"not a floor"),
+// The answer that says so, without a newline.
+impl fmt::Display for Reason {
+    fn fmt<W: fmt::Write>(&self, f: &mut fmt::Formatter<W>) -> fmt::Result {
+        let words = match self {
+            Reason::LineTooLong => "line too long",
+            Reason::UnknownWord => "unknown word",
+            Reason::MissingField => "missing field",
+            Reason::TooManyFields => "too many fields",
+            Reason::NotANumber => "not a number of 32 bits",
+            Reason::TooManyNumbers => "too many numbers",
+            Reason::WrongCount => "wrong count of numbers",
+            Reason::NotACount => "not a count",
+            Reason::NotAReading => "not a reading",
+            Reason::NotBytes => "not bytes",
+            Reason::NotAName => "not a name",
+            Reason::NotAWalk => "not a walk",
+            Reason::NotACall => "not a call",
+            Reason::NotAFloor => "not a floor",
+        };
+        write!(f, "unreadable: {words}")
     }
 }

@@ -1,58 +1,53 @@
-// Standard input and output. A call that a signal interrupted, or that would have to wait, is made again. A call that
-// failed otherwise is reported on standard error, in the system's words.
-use std::io::{Error, ErrorKind, Read};
-use std::{io, thread};
+// Standard input and output. A call that a signal interrupted, or that would have to wait, is made again.
+use std::io::{Error, ErrorKind, Read, Write};
+use std::{fmt, io, thread};
 
-// What a read has found.
-#[derive(Clone, Copy)]
-pub enum Input {
-    // The count of bytes; 0 if it is to be tried again.
-    Bytes(usize),
-    End,
-    Failed,
+// Why the program ends before its input does, in the system's words.
+#[derive(Debug, Drop)]
+pub enum Failure {
+    Read(Error),
+    Write(Error),
 }
 
-// Reads once into the chunk.
-pub fn read(rt: &(impl io::Input + Eprint), chunk: &mut [u8]) -> Input {
-    match rt.reader().read(chunk) {
-        Ok(0) => Input::End,
-        Ok(count) => Input::Bytes(count),
-        Err(error) => {
-            if is_passing(&error) {
-                return Input::Bytes(0);
-            }
-            report(rt, "cannot read standard input", error);
-            Input::Failed
+impl fmt::Display for Failure {
+    fn fmt<W: fmt::Write>(&self, f: &mut fmt::Formatter<W>) -> fmt::Result {
+        match self {
+            Failure::Read(error) => write!(f, "cannot read standard input: {error}"),
+            Failure::Write(error) => write!(f, "cannot write standard output: {error}"),
         }
     }
 }
 
-// Writes all bytes, and returns whether that could be done. A proved loop has to end, so this one counts its turns
-// down, from a number that no run uses up.
-pub fn write(rt: &(impl Print + Eprint), bytes: &[u8]) -> bool {
-    let mut done = 0;
-    let mut turns = u64::MAX;
-    while turns > 0 && done < bytes.len() {
-        done = write_from(rt, bytes, done);
-        turns -= 1;
+// A reader or a writer that makes calls again. A proved loop has to end, so these count their turns, up to a number
+// that no run uses up.
+#[derive(Drop)]
+pub struct Patient<T>(pub T);
+
+impl<R: Read> Read for Patient<R> {
+    fn read(&mut self, buffer: &mut [u8]) -> io::Result<usize> {
+        for _ in 0..u64::MAX {
+            match self.0.read(buffer) {
+                Err(error) if is_passing(&error) => {}
+                outcome => return outcome,
+            }
+        }
+        Ok(0)
     }
-    done == bytes.len()
 }
 
-// Writes once, from a position on, and returns the position after what was written; `usize::MAX` if the write failed.
-fn write_from(rt: &(impl Print + Eprint), bytes: &[u8], from: usize) -> usize {
-    if bytes.len() <= from {
-        return from;
-    }
-    match rt.write_some(&bytes[from..]) {
-        Ok(count) => from + count,
-        Err(error) => {
-            if is_passing(&error) {
-                return from;
+impl<W: Write> Write for Patient<W> {
+    fn write(&mut self, bytes: &[u8]) -> io::Result<usize> {
+        for _ in 0..u64::MAX {
+            match self.0.write(bytes) {
+                Err(error) if is_passing(&error) => {}
+                outcome => return outcome,
             }
-            report(rt, "cannot write standard output", error);
-            usize::MAX
         }
+        Ok(0)
+    }
+
+    fn flush(&mut self) -> io::Result<()> {
+        self.0.flush()
     }
 }
 
@@ -64,9 +59,4 @@ fn is_passing(error: &Error) -> bool {
         return true;
     }
     kind == ErrorKind::Interrupted
-}
-
-// Writes a line to standard error: what failed, and the system's words. If that fails too, nothing is left to be told.
-fn report(rt: &impl Eprint, what: &str, error: Error) {
-    let _ = eprintln!(rt; "{what}: {error}");
 }

@@ -1,6 +1,5 @@
 -- The theory of words: proves, and defines nothing that a contract cites.
 pub mod Laws
 pub mod Carry
-pub mod Halves
 pub mod Compare
 pub mod Bisection

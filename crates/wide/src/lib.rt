@@ -37,10 +37,10 @@ pub fn root_of_fraction(t: u64, q: u64) -> u64
         step = step << 1 | 1;
         if fraction_less(t, q, middle, 1) {
             high = middle - 1;
-            near = std::num::wrapping_sub_u64(middle, step);
+            near = middle.wrapping_sub(step);
         } else {
             low = middle;
-            near = std::num::wrapping_add_u64(middle, step);
+            near = middle.wrapping_add(step);
         }
     }
     low

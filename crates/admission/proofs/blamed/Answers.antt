@@ -42,14 +42,14 @@ returns-then-some_outside c =
 pub first_broken-requires : goal.first_broken-requires
 first_broken-requires c = near→in_range _ (row-3 c)
 
-pub returns-in-At : goal.returns-in-At
-returns-in-At c =
-    let found = broken-found _ _ _ (sym c.first_broken.ensures ∙ c.in-At.is) in
+pub returns-in-Some : goal.returns-in-Some
+returns-in-Some c =
+    let found = broken-found _ _ _ (sym c.first_broken.ensures ∙ c.in-Some.is) in
     turns-away (record {
       by = _;
-      first = later (row-1 (goal.at.returns-in-At c).Else-bad_count)
-          (later (row-2 (goal.at.returns-in-At c).Else-too_many)
-          (later (row-3 (goal.at.returns-in-At c).Else-some_outside) (here found.0)));
+      first = later (row-1 (goal.at.returns-in-Some c).Else-bad_count)
+          (later (row-2 (goal.at.returns-in-Some c).Else-too_many)
+          (later (row-3 (goal.at.returns-in-Some c).Else-some_outside) (here found.0)));
       is = ap₂ (λ (e k : ℕ). refused 4 (c.args.shape ∷ e ∷ k ∷ [])) (sym found.1) (sym found.2);
     })
 

@@ -1,43 +1,25 @@
 -- `blamed_pair` meets its contract: the first list's refusal is given before the second's, and that before 13.
-use mathlib.Core.List.{[], ◌∷◌, ◌++◌}
-use Rattle.plane.specs.Reply.{NoneApply}
-use Rattle.plane.specs.Refusal.{shape_rows, Valid}
-use Rattle.plane.specs.Floor.{Floored, on, floor_row}
+use Rattle.std.proofs.Common.{[], ◌∷◌, ◌++◌}
+use Rattle.plane.specs.Refusal.{shape_rows}
+use Rattle.plane.specs.Floor.{on, floor_row}
 use Rattle.plane.proofs.theory.refusals.Accept.{valid→accepted}
-use Rattle.admission.specs.theory.Judged.{refuses-append, refuses-join, turns-away}
+use Rattle.admission.specs.theory.Judged.{refuses-append, refuses-join, held, refusal-of, hands-on}
 use Rattle.admission.specs.theory.Door.{then-floors}
 use Rattle.admission.proofs.blamed_pair.Goals as goal
-use Rattle.admission.proofs.blamed_pair.Goals.{In_default, In_default-blamed, Start}
 
--- the two shapes
-abbrev one : Start → Floored
-one c = on c.args.a.now c.args.f
+pub returns-in_err-admit : goal.returns-in_err-admit
+returns-in_err-admit c =
+    hands-on _ _ c.from_residual.ensures.1 (refuses-append (shape_rows 2 c.args.second.now ++ (floor_row c.args.f c.args.g ∷ []))
+    (refusal-of c.in_err-admit.ensures))
 
-abbrev other : Start → Floored
-other c = on c.args.b.now c.args.g
-
--- past its judging each is valid
-first : (c : In_default) → Valid c.args.a.now
-first c = c.admit.ensures.valid c.in_default.is
-
-second : (c : In_default-blamed) → Valid c.args.b.now
-second c = c.blamed.ensures.valid c.in_default-blamed.is
-
--- the rows of the second list and 13, after those of the first
-behind-first : (c : In_default) → NoneApply (shape_rows 1 c.args.a.now)
-behind-first c = valid→accepted _ 1 (first c)
-
-pub returns-in-No : goal.returns-in-No
-returns-in-No c =
-    turns-away (refuses-append (shape_rows 2 c.args.b.now ++ (floor_row c.args.f c.args.g ∷ []))
-    (c.admit.ensures.no _ c.in-No.is))
-
-pub returns-in-No-blamed : goal.returns-in-No-blamed
-returns-in-No-blamed c =
-    turns-away (refuses-join (shape_rows 1 c.args.a.now) (behind-first (goal.at.returns-in-No-blamed c).In_default)
-    (refuses-append (floor_row c.args.f c.args.g ∷ []) (c.blamed.ensures.no _ c.in-No-blamed.is)))
+pub returns-in_err-blamed : goal.returns-in_err-blamed
+returns-in_err-blamed c =
+    hands-on _ _ c.from_residual-in_err-blamed.ensures.1
+    (refuses-join (shape_rows 1 c.args.first.now) (valid→accepted _ 1 (held c.in_ok-admit.ensures))
+    (refuses-append (floor_row c.args.f c.args.g ∷ []) (refusal-of c.in_err-blamed.ensures)))
 
 pub returns : goal.returns
 returns c =
-    then-floors (one (goal.at.returns c).Start) (other (goal.at.returns c).Start) (first (goal.at.returns c).In_default)
-    (second (goal.at.returns c).In_default-blamed) c.admit_floors.ensures
+    let args = c.args in
+    then-floors (on args.first.now args.f) (on args.second.now args.g) (held c.in_ok-admit.ensures) (held c.in_ok-blamed.ensures)
+    c.admit_floors.ensures

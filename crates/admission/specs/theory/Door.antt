@@ -2,7 +2,7 @@
 --     shapes-refused, rest-refused     the refusal of a row of the shapes, or of the question's own, and the output as it was
 --     then-floors                      two shapes are judged by their floors
 --     all-answered                     no row applies: the values are answered; `all-written`: and the shape is written
-use Rattle.std.specs.Prelude.{◌≡◌, List, [], ◌∷◌, ℤ}
+use Rattle.std.specs.Prelude.{◌≡◌, List, [], ◌∷◌, ℤ, Result}
 use Rattle.std.proofs.Common.{sym, ◌∙◌, ap}
 use Rattle.plane.specs.Point.{numbers}
 use Rattle.plane.specs.Reply.{Reply, answered, NoneApply}
@@ -12,11 +12,11 @@ use Rattle.plane.specs.Floor.{Floored, floor_row, pair_rows, Same, rows_of, Admi
 use Rattle.plane.specs.Question.{Question, values, reply, output}
 use Rattle.plane.proofs.theory.refusals.Accept.{valid→accepted}
 use Rattle.plane.proofs.theory.refusals.Asked.{asked-given, asked-none, given-kept, none-wrote, shapes-given, rest-given, rest-none}
-use Rattle.admission.specs.declared.Admission.{Admission}
+use Rattle.admission.specs.declared.answer.Refusal.{Refusal}
 use Rattle.admission.specs.Admission.{Refuses, Judged}
 use Rattle.admission.specs.theory.Judged.{refuses-join}
 
-pub then-floors : (a b : Floored) → Valid a.list → Valid b.list → {x : Admission}
+pub then-floors : (a b : Floored) → Valid a.list → Valid b.list → {x : Result Unit Refusal}
     → Judged (a.floor ≡ b.floor) (floor_row a.floor b.floor ∷ []) x → Judged (Same a b) (pair_rows a b) x
 then-floors a b v w j = record {
   valid = λ e. record { first-valid = v; second-valid = w; one-floor = j.valid e };

@@ -1,7 +1,7 @@
 -- Three shapes of one question.
 --     three→none, none→three     no row of theirs applies exactly if they are three valid shapes on one floor
 --     floors-refused             of valid shapes what is refused of their floors; `then-last`: they are judged by the last floor
-use Rattle.std.specs.Prelude.{◌≡◌, not, List, [], ◌∷◌, ◌++◌}
+use Rattle.std.specs.Prelude.{◌≡◌, not, List, [], ◌∷◌, ◌++◌, Result}
 use Rattle.std.proofs.Common.{ap, eqb-true, eq-eqb}
 use Rattle.std.proofs.lemmas.Bool.{not-false}
 use Rattle.plane.specs.Reply.{Reply, Row, NoneApply}
@@ -9,7 +9,7 @@ use Rattle.plane.specs.Refusal.{shape_rows, Valid}
 use Rattle.plane.specs.Floor.{Floored, floor_row}
 use Rattle.plane.proofs.theory.refusals.Rows.{none-append, none-join}
 use Rattle.plane.proofs.theory.refusals.Accept.{valid→accepted, accepted→valid}
-use Rattle.admission.specs.declared.Admission.{Admission}
+use Rattle.admission.specs.declared.answer.Refusal.{Refusal}
 use Rattle.admission.specs.Admission.{Refuses, Judged}
 use Rattle.admission.specs.Three.{floor_rows, three_rows, SameThree}
 use Rattle.admission.specs.theory.Judged.{refuses-join}
@@ -51,7 +51,7 @@ module _ (a b c : Floored) where
         (refuses-join (shape_rows 2 b.list) (valid→accepted b.list 2 v)
         (refuses-join (shape_rows 3 c.list) (valid→accepted c.list 3 w) f))
 
-    pub then-last : a.floor ≡ b.floor → {x : Admission}
+    pub then-last : a.floor ≡ b.floor → {x : Result Unit Refusal}
         → Judged (a.floor ≡ c.floor) (floor_row a.floor c.floor ∷ []) x → Judged (SameThree a b c) (three_rows a b c) x
     then-last same j = record {
       valid = λ e. record { first-valid = u; second-valid = v; third-valid = w; second-floor = same; third-floor = j.valid e };

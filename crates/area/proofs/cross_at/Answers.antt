@@ -1,8 +1,4 @@
 -- `cross_at` meets its contract.
-use mathlib.Core.Path.{◌∙◌, ap₂}
-use mir.Syntax.{w64}
-use Rattle.integer.specs.Machine.{result-is}
-use Rattle.plane.specs.Turn.{cross}
 use Rattle.polygon.specs.theory.Small.{small-corner, small-wide}
 use Rattle.area.proofs.cross_at.Goals as goal
 
@@ -12,7 +8,3 @@ cross-requires c =
       small-wide (small-corner _ pre.2 _ pre.0 c.corner_at.ensures),
       small-wide (small-corner _ pre.2 _ pre.1 c.corner_at-2.ensures),
     )
-
-pub returns : goal.returns
-returns c = result-is w64 c.cross.type_inv (c.cross.ensures
-    ∙ ap₂ cross c.corner_at.ensures c.corner_at-2.ensures)

@@ -5,12 +5,6 @@ use lib.IntN.{◌+ℤ◌}
 use Rattle.boxes.specs.Box.{half_round}
 use Rattle.boxes.proofs.measured.Goals as goal
 
-pub height-height-requires : goal.height-height-requires
-height-height-requires c = c.requires
-
-pub along-along-requires : goal.along-along-requires
-along-along-requires c = c.requires
-
 pub squared-squared-requires : goal.squared-squared-requires
 squared-squared-requires c = let pre = c.requires in (pre.valid, pre.edge_in)
 

@@ -1,7 +1,7 @@
 -- The search for a direction, with floors that are any numbers.
 --     found-above      a floor is above its limit: 13 after the lists, so nothing was to be found
 --     found_within     else what the search answers
-use Rattle.std.specs.Prelude.{◌≡◌, refl, true, false, ◌||◌, ℕ, ltb}
+use Rattle.std.specs.Prelude.{◌≡◌, refl, true, false, ◌||◌, ℕ, ltb, None}
 use Rattle.std.proofs.Common.{sym, ◌∙◌, arith}
 use mathlib.Core.List.{List, [], ◌∷◌, ◌++◌}
 use Rattle.plane.specs.Limits.{max_floor}
@@ -12,7 +12,6 @@ use Rattle.plane.specs.Question.{Question, table, reply}
 use Rattle.plane.proofs.theory.refusals.Rows.{none-append, first_row-given, first_row-none, Outcome, given, passed, outcome}
 use Rattle.plane.proofs.theory.refusals.Asked.{asked-none}
 use Rattle.separator.specs.Separator.{SeparatorBetween, ask_separator}
-use Rattle.separator.specs.declared.Separator.TheVariants.{Nothing}
 use Rattle.wire.specs.Told.{crossed}
 use Rattle.crossing.specs.LowFloor.{low_floor, barred}
 use Rattle.calls.specs.Calls.{SeparatorTold}
@@ -37,8 +36,8 @@ module _ (a b : Floored) where
   pub found-above : (ltb max_floor a.floor || ltb max_floor b.floor) ≡ true
       → {ns : List ℕ} → ns ≡ crossed (barred (shape_rows 1 a.list ++ shape_rows 2 b.list)) → SeparatorTold a b ns
   found-above high n =
-      let q = ask_separator a b Nothing in record {
-        found = Nothing;
+      let q = ask_separator a b None in record {
+        found = None;
         numbers-are = (above-pair q refl high n).0;
         found-is = λ none. absurd
             (barred-not-none (low_floor q) (shape_rows 1 a.list ++ shape_rows 2 b.list) (pair-reply q refl high) none);

@@ -3,7 +3,8 @@
 --     kept_above, answered-low                     it writes nothing, and what is answered is on a floor within the limit
 --     answered-zero, separator-found               0 tells an answer
 --     added-same, added-refused                    an addition to a log
-use Rattle.std.specs.Prelude.{◌≡◌, refl, Bool, true, false, ◌||◌, List, [], ◌∷◌, ◌++◌, map, ℕ, ◌≤◌, ◌<◌, ltb, ℤ, pos, length}
+use Rattle.std.specs.Prelude.{◌≡◌, refl, Bool, true, false, ◌||◌, List, [], ◌∷◌, ◌++◌, map, ℕ, ◌≤◌, ◌<◌, ltb, ℤ, pos, length, Option, Some}
+use Rattle.std.specs.Prelude.{None}
 use Rattle.std.proofs.Math.Path.{sym}
 use Rattle.std.proofs.Common.{◌∙◌, ap, arith, lit<, lit≤}
 use Rattle.std.proofs.Math.Bool.{or-true}
@@ -17,8 +18,7 @@ use Rattle.plane.specs.Question.{Question, table, values, reply, output}
 use Rattle.plane.proofs.theory.refusals.Rows.{first_row-none, Outcome, given, passed, outcome}
 use Rattle.plane.proofs.theory.refusals.Asked.{admitted→none, asked-given, asked-none, asked-rest, shapes-given}
 use Rattle.separator.specs.Separator.{Finds, separator_numbers, ask_separator}
-use Rattle.separator.specs.declared.Separator.{Separator}
-use Rattle.separator.specs.declared.Separator.TheVariants.{Direction, Nothing}
+use Rattle.polygon.specs.declared.point.Point.{Point}
 use Rattle.journal.specs.Adding.{added}
 use Rattle.wire.specs.Told.{bits, crossed}
 use Rattle.wire.specs.Heard.{number_of, values_of}
@@ -91,9 +91,9 @@ pub answered-zero : (q : Question) → Numbered q.rest → number_of (crossed (r
 unfolding low_floor
 answered-zero q rows h = asked-none (low_floor q) (low-none q rows h)
 
-separator-short : (f : ℕ) (s : Separator) → length (separator_numbers s ++ (pos f ∷ [])) ≤ 9
-separator-short f (Direction u v) = lit≤ tt
-separator-short f Nothing = lit≤ tt
+separator-short : (f : ℕ) (s : Option Point) → length (separator_numbers s ++ (pos f ∷ [])) ≤ 9
+separator-short f (Some d) = lit≤ tt
+separator-short f None = lit≤ tt
 
 pub separator-found : (a b : Floored) (ns : List ℕ) (s : SeparatorTold a b ns) → number_of ns ≡ 0
     → Finds (corners a) (corners b) s.found × (values_of ns ≡ map bits (separator_numbers s.found ++ (pos a.floor ∷ [])))

@@ -1,6 +1,7 @@
 -- `between` meets its contract: what the pass saw tells whether the shapes are apart, and where it stopped the search goes on.
 use mathlib.Core.Path.{◌≡◌, sym, ◌∙◌, ap}
 use mathlib.Core.Bool.{true}
+use mathlib.Core.Logic.{inl, inr}
 use native.Mathlib.Omega.{arith}
 use Rattle.plane.specs.Point.{points}
 use Rattle.plane.specs.Separation.{apart}
@@ -31,9 +32,7 @@ pub returns-in-Apart : goal.returns-in-Apart
 returns-in-Apart c = (clear (goal.at.returns-in-Apart c).In-Apart, c.found.ensures)
 
 pub returns-in-Touching : goal.returns-in-Touching
-returns-in-Touching c = related-not-apart _ _ {n = 1} (omega arith)
-    (ap number_of (sym c.in-Touching.is) ∙ c.related.ensures)
-
-pub returns-in-Overlapping : goal.returns-in-Overlapping
-returns-in-Overlapping c = related-not-apart _ _ {n = 2} (omega arith)
-    (ap number_of (sym c.in-Overlapping.is) ∙ c.related.ensures)
+returns-in-Touching c = elim c.in-Touching.is [
+  | inl e ↦ related-not-apart _ _ {n = 1} (omega arith) (ap number_of (sym e) ∙ c.related.ensures)
+  | inr e ↦ related-not-apart _ _ {n = 2} (omega arith) (ap number_of (sym e) ∙ c.related.ensures)
+]

@@ -6,9 +6,6 @@ use Rattle.clearance.specs.Answer.{Measurable}
 use Rattle.clearance.specs.theory.Walked.{nearest-measurable}
 use Rattle.clearance.proofs.found.Goals as goal
 
-pub sought-seen-requires : goal.sought-seen-requires
-sought-seen-requires c = c.requires
-
 pub place-first-requires : goal.place-first-requires
 place-first-requires c = c.requires.0.shape.some
 

@@ -3,7 +3,7 @@
 --     Tried test f g r          r is the first pair of ends that passes, or none does; `tried-is`: what the code picks
 --     corners-first, second-first, first-first     the nearest candidate, where such a pair is reached and none of an earlier kind
 --     some-reached              one is reached
-use Rattle.std.specs.Prelude.{◌≡◌, refl, Bool, true, false, ◌&&◌, ◌||◌, ◌⊎◌, List, ℕ, ◌≤◌, ◌<◌, eqb, ℤ, pos, length}
+use Rattle.std.specs.Prelude.{◌≡◌, refl, Bool, true, false, ◌&&◌, ◌||◌, ◌⊎◌, Option, Some, None, List, ℕ, ◌≤◌, ◌<◌, eqb, ℤ, pos, length}
 use Rattle.std.proofs.Common.{sym, ◌∙◌, ap, subst, inl, inr, arith, eq-eqb, eqb-true}
 use Rattle.std.proofs.lemmas.Bool.{false≢true}
 use Rattle.std.proofs.Math.Bool.{and-eq-true_iff}
@@ -20,8 +20,6 @@ use Rattle.clearance.specs.Facing.{Lowest, Foot, Across, Reached, Facing}
 use Rattle.clearance.specs.Faces.{IsFace, is_end, is_along, is_foot, picked_of, tried}
 use Rattle.clearance.specs.theory.First.{nearest-is}
 use Rattle.clearance.specs.declared.face.Face.{Face}
-use Rattle.clearance.specs.declared.reach.Spot.{Spot}
-use Rattle.clearance.specs.declared.reach.Spot.TheVariants.{At, Nowhere}
 
 -- ---- the ends of a face
 
@@ -40,9 +38,9 @@ pub record Picked (test : ℕ → ℕ → Bool) (f g : Face) (i j : ℕ) : Type 
   pub passes : test i j ≡ true
   pub none-sooner : (k l : ℕ) → End f k → End g l → test k l ≡ true → Sooner k l i j → ⊥
 
-abbrev pub Tried : (ℕ → ℕ → Bool) → Face → Face → Spot → Type 0
-Tried test f g (At i j) = Picked test f g i j
-Tried test f g Nowhere = (k l : ℕ) → End f k → End g l → test k l ≡ true → ⊥
+abbrev pub Tried : (ℕ → ℕ → Bool) → Face → Face → Option (ℕ × ℕ) → Type 0
+Tried test f g (Some (i, j)) = Picked test f g i j
+Tried test f g None = (k l : ℕ) → End f k → End g l → test k l ≡ true → ⊥
 
 module _ (test : ℕ → ℕ → Bool) (f g : Face) (f-order : f.first ≤ f.last) (g-order : g.first ≤ g.last) where
   -- what holds at the four pairs of ends holds at all
@@ -163,25 +161,25 @@ module _ (A B : List Point) (n : Point) (s : IsShape A) (t : IsShape B) (h : Fac
   F' : IsFace (opposite (opposite n)) A f
   F' = subst (λ m. IsFace m A f) (sym (opposite-opposite n)) F
 
-  abbrev Corners : Spot → Type 0
+  abbrev Corners : Option (ℕ × ℕ) → Type 0
   Corners = Tried (is_along n A B) f g
 
-  abbrev OnSecond : Spot → Type 0
+  abbrev OnSecond : Option (ℕ × ℕ) → Type 0
   OnSecond = Tried (is_foot g A B) f g
 
-  abbrev OnFirst : Spot → Type 0
+  abbrev OnFirst : Option (ℕ × ℕ) → Type 0
   OnFirst = Tried (is_foot f B A) g f
 
-  no-corners : Corners Nowhere → (i j : ℕ) → Across n A B i j → ⊥
+  no-corners : Corners None → (i j : ℕ) → Across n A B i j → ⊥
   no-corners none i j r = let w = across_test n A B F G r in none i j w.0 w.1 w.2
 
-  no_second : OnSecond Nowhere → (c e : ℕ) → Foot n A B c e → ⊥
+  no_second : OnSecond None → (c e : ℕ) → Foot n A B c e → ⊥
   no_second none c e r = let w = foot-test n A B F G r in none c e w.0 w.1 w.2
 
-  no-first : OnFirst Nowhere → (c e : ℕ) → Foot (opposite n) B A c e → ⊥
+  no-first : OnFirst None → (c e : ℕ) → Foot (opposite n) B A c e → ⊥
   no-first none c e r = let w = foot-test (opposite n) B A G F' r in none c e w.0 w.1 w.2
 
-  pub corners-first : {i j : ℕ} → Corners (At i j) → nearest A B ≡ corners i j
+  pub corners-first : {i j : ℕ} → Corners (Some (i, j)) → nearest A B ≡ corners i j
   corners-first {i} {j} r = nearest-is A B s.some t.some n h (corners i j)
       (test-across n A B F G r.one_end r.other-end r.passes) none
     where
@@ -190,7 +188,7 @@ module _ (A B : List Point) (n : Point) (s : IsShape A) (t : IsShape B) (h : Fac
       none (on_second k l) w e = e
       none (on_first k l) w e = e
 
-  pub second-first : Corners Nowhere → {c e : ℕ} → OnSecond (At c e) → nearest A B ≡ on_second c e
+  pub second-first : Corners None → {c e : ℕ} → OnSecond (Some (c, e)) → nearest A B ≡ on_second c e
   second-first off {c} {e} r = nearest-is A B s.some t.some n h (on_second c e)
       (test-foot n A B F G r.one_end r.other-end r.passes) none
     where
@@ -199,7 +197,7 @@ module _ (A B : List Point) (n : Point) (s : IsShape A) (t : IsShape B) (h : Fac
       none (on_second k l) w q = let v = foot-test n A B F G w in r.none-sooner k l v.0 v.1 v.2 q
       none (on_first k l) w q = q
 
-  pub first-first : Corners Nowhere → OnSecond Nowhere → {c e : ℕ} → OnFirst (At c e) → nearest A B ≡ on_first c e
+  pub first-first : Corners None → OnSecond None → {c e : ℕ} → OnFirst (Some (c, e)) → nearest A B ≡ on_first c e
   first-first off neither {c} {e} r = nearest-is A B s.some t.some n h (on_first c e)
       (test-foot (opposite n) B A G F' r.one_end r.other-end r.passes) none
     where
@@ -208,7 +206,7 @@ module _ (A B : List Point) (n : Point) (s : IsShape A) (t : IsShape B) (h : Fac
       none (on_second k l) w q = no_second neither k l w
       none (on_first k l) w q = let v = foot-test (opposite n) B A G F' w in r.none-sooner k l v.0 v.1 v.2 q
 
-  pub some-reached : Corners Nowhere → OnSecond Nowhere → OnFirst Nowhere → ⊥
+  pub some-reached : Corners None → OnSecond None → OnFirst None → ⊥
   some-reached off neither nor = go h.some h.reached
     where
       go : (c : Candidate) → Reached A B n c → ⊥

@@ -3,7 +3,7 @@
 --     neighbours-lowest            a corner of a shape is lowest if neither of its neighbours is lower; `between-lowest`: corner i
 --     level-lowest                 so is a corner that is as low
 --     edge-face, corner-face       two neighbours that are lowest are the face, or one corner if both its neighbours are higher
---     face-lowest, face-turned     the first and the last of a face in the opposite direction, by position
+--     face-ends                    the first and the last of a face in the opposite direction, by position
 use Rattle.std.specs.Prelude.{◌≡◌, refl, Bool, true, false, cond, ◌⊎◌, List, [], ◌∷◌, ℕ, ◌≤◌, ◌<◌, ltb, pos, length, ◌≤ℤ◌, ◌<ℤ◌}
 use Rattle.std.proofs.Common.{sym, ◌∙◌, subst, inl, inr, arith, ltb-true, ltb-false}
 use Rattle.std.proofs.Math.Decide.{ℕ_discrete}
@@ -141,18 +141,6 @@ module _ {n : Point} {ps : List Point} where
     given : Face (opposite n) ps i j
     given = rw (p, q) (face-is s (opposite-non-zero some))
 
-    pub face-lowest : i ≤ j → IsFace n ps (record { first = i; last = j })
-    face-lowest h = record {
-      first-lowest = furthest-lowest given.first-furthest;
-      last-lowest = furthest-lowest given.last-furthest;
-      ordered = h;
-      no_other = λ k l. given.no_other k (lowest-furthest l);
-    }
-
-    pub face-turned : j < i → IsFace n ps (record { first = j; last = i })
-    face-turned h = record {
-      first-lowest = furthest-lowest given.last-furthest;
-      last-lowest = furthest-lowest given.first-furthest;
-      ordered = omega arith;
-      no_other = λ k l. elim (given.no_other k (lowest-furthest l)) [ inl e ↦ inr e | inr e ↦ inl e ];
-    }
+    pub face-ends : IsFace n ps (ordered_ends i j)
+    face-ends = ends-face (furthest-lowest given.first-furthest) (furthest-lowest given.last-furthest)
+        (λ k l. given.no_other k (lowest-furthest l))

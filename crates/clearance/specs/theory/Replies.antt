@@ -1,23 +1,31 @@
 -- What clearance answers, by whether the shapes are apart.
+--     spaced-numbers         what the code tells is what clearance answers
 --     clearance-values       the values of an answer; `clearance-answered`: good shapes are answered with them
 --     nearest-reply          a candidate's numbers are answered exactly if the shapes are apart and it is the first of the least
 --     zero-reply             0 exactly if they have a point in common
-use Rattle.std.specs.Prelude.{◌≡◌, refl, Bool, true, false, cond, List, [], ◌∷◌, ◌++◌, ◌↔◌, ℕ, ℤ, pos}
+use Rattle.std.specs.Prelude.{◌≡◌, refl, Bool, true, false, cond, Option, Some, None, List, [], ◌∷◌, ◌++◌, ◌↔◌, ℕ, ℤ, pos}
 use Rattle.std.proofs.Common.{sym, ◌∙◌, ap, subst, arith}
 use Rattle.plane.specs.Point.{Point, points}
 use Rattle.plane.specs.Reply.{answered}
 use Rattle.plane.specs.Separation.{apart}
 use Rattle.plane.specs.Mean.{CommonPoint}
-use Rattle.plane.specs.Clearance.{Candidate, corners, on_second, on_first, nearest, numbers_of}
+use Rattle.plane.specs.Clearance.{Candidate, corners, on_second, on_first, nearest, numbers_of, clearance_numbers}
 use Rattle.plane.specs.Floor.{Floored, Same}
 use Rattle.plane.specs.Question.{reply, ask_clearance}
 use Rattle.plane.proofs.theory.refusals.Asked.{asked-none, asked-values, rest-none}
 use Rattle.clearance.specs.Order.{FirstOfLeast}
+use Rattle.clearance.specs.Answer.{spacing_numbers, Spaced}
+use Rattle.clearance.specs.declared.measured.Distance.{Distance}
 use Rattle.clearance.specs.theory.Nearest.{common-not-apart}
 use Rattle.clearance.specs.theory.NearestUnique.{nearest-first-least, first-least-nearest}
 use Rattle.clearance.specs.theory.Common.{not-apart-common}
 
 -- ---- numbers
+
+-- what the code tells is what clearance answers
+pub spaced-numbers : (A B : List Point) (w : Option Distance) → Spaced A B w → spacing_numbers w ≡ clearance_numbers A B
+spaced-numbers A B None e = ap (λ t. cond t (numbers_of A B (nearest A B)) (pos 0 ∷ [])) (sym e)
+spaced-numbers A B (Some d) e = e.1 ∙ ap (λ t. cond t (numbers_of A B (nearest A B)) (pos 0 ∷ [])) (sym e.0)
 
 -- an answer's first number is not another's
 other-kind : {A : Type 0} (m n : ℕ) {x y : List ℤ} → pos m ∷ x ≡ pos n ∷ y → (m ≡ n → ⊥) → A

@@ -1,7 +1,6 @@
 -- `goes_on` meets its contract: the rise decides the half, then the turn is asked.
 use mathlib.Core.Path.{◌≡◌, sym, ◌∙◌, ap}
 use mathlib.Core.Bool.{beq}
-use borrow.Author.Tests.{not-true, not-false}
 use lib.IntN.{ℤ, pos}
 use lib.Signed.{le_z}
 use mir.Syntax.{w64}
@@ -20,8 +19,9 @@ half_is : (c : Start) → beq (le_z (pos 0) c.args.f.rise) c.args.up
 half_is c = ap (λ (z : ℤ). beq (le_z (pos 0) z) c.args.up) (sym (rise-is c))
 
 pub returns-then-f-up : goal.returns-then-f-up
-returns-then-f-up c = sym (other_half _ _ _ (half_is (goal.at.returns-then-f-up c).Start ∙ not-true _ c.if-f-up.true))
+returns-then-f-up c =
+    c.is_left.ensures ∙ sym (own-half _ _ _ (half_is (goal.at.returns-then-f-up c).Start ∙ c.if-f-up.true))
 
-pub returns : goal.returns
-returns c =
-    c.is_left.ensures ∙ sym (own-half _ _ _ (half_is (goal.at.returns c).Start ∙ not-false _ c.if-f-up.false))
+pub returns-else-f-up : goal.returns-else-f-up
+returns-else-f-up c =
+    c.if-f-up.false ∙ sym (other_half _ _ _ (half_is (goal.at.returns-else-f-up c).Start ∙ c.if-f-up.false))

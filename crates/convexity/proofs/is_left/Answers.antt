@@ -11,7 +11,7 @@ use mir.Val.{to_z, of_z}
 use Rattle.integer.specs.Bound.{Within}
 use Rattle.integer.specs.Linear.{linear, lia}
 use Rattle.integer.specs.Order.{lt_z-true, lt_z-false, lt-lt_z, le-lt_z}
-use Rattle.integer.specs.Machine.{machine, bounded, machine-fits, machine-is}
+use Rattle.integer.specs.Machine.{machine, bounded, machine-is}
 use Rattle.plane.specs.Turn.{cross}
 use Rattle.convexity.proofs.is_left.Goals as goal
 
@@ -31,12 +31,6 @@ less {a} {b} {x} {y} p q = ap₂ lt_z p q ∙ go (lt_z x y) refl
 product_is : {x y : ℤ} → Within (2 ^ 22) x → Within (2 ^ 22) y → to_z w64 (of_z w64 (to_z w64 (of_z w64 x) *ℤ to_z w64 (of_z w64 y))) ≡ x *ℤ
     y
 product_is h k = let p = bounded h in let q = bounded k in machine-is (search machine depth 40) tt
-
-pub overflow_mul-result : goal.overflow_mul-result
-overflow_mul-result c = machine-fits (search (machine, bounded) depth 40) tt
-
-pub overflow_mul-result-2 : goal.overflow_mul-result-2
-overflow_mul-result-2 c = machine-fits (search (machine, bounded) depth 40) tt
 
 pub returns : goal.returns
 unfolding cross

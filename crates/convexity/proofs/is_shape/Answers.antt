@@ -26,9 +26,6 @@ three c =
 pub returns-then-n-eq1 : goal.returns-then-n-eq1
 returns-then-n-eq1 c = ((λ t. point-shape _ (sym c.count-n.ensures ∙ c.if-n-eq1.true)), (λ s. refl))
 
-pub precedes_at-requires : goal.precedes_at-requires
-precedes_at-requires c = (omega (arith, two c), omega (arith, two c))
-
 pub returns-then-not-precedes_at : goal.returns-then-not-precedes_at
 returns-then-not-precedes_at c = (
   (λ t. absurd (false≢true t)),
@@ -41,9 +38,6 @@ returns-then-n-eq2 c =
       (λ t. pair-shape _ (sym n ∙ c.if-n-eq2.true) (sym c.precedes_at.ensures ∙ c.if-not-precedes_at.false)),
       (λ s. refl),
     )
-
-pub stretch-top-requires : goal.stretch-top-requires
-stretch-top-requires c = (omega (arith, (three c).0), c.requires.0)
 
 pub stretch-end-requires : goal.stretch-end-requires
 stretch-end-requires c =

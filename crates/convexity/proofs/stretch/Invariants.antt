@@ -1,5 +1,5 @@
 use mathlib.Core.Path.{◌≡◌}
-use Prim.Native.Nat.{◌-◌, ◌^◌}
+use Prim.Native.Nat.{◌^◌}
 use Rattle.plane.specs.Point.{points, corner}
 use Rattle.plane.specs.Forms.{edges}
 use Rattle.polygon.specs.Point.{Small}
@@ -10,6 +10,3 @@ use Rattle.convexity.proofs.stretch.Given as goal
 abbrev pub invariant-loop-k : goal.invariant-loop-k
 invariant-loop-k l =
     Along (edges (points l.list)) l.up l.start l.k × (vector l.e ≡ corner (edges (points l.list)) l.k) × Small (2 ^ 22) (vector l.e)
-
-abbrev pub decreases-loop-k : goal.decreases-loop-k
-decreases-loop-k l = l.n - l.k

@@ -1,10 +1,12 @@
 -- On a floor above its limit the rows of the shapes are judged, and then 13 is due, whatever the question.
 --     barred-refused                                 what judging says
 --     barred-shape, barred-points, barred-shapes     13 after lists that pass
+--     judged-next                                    one judging after another that passed
+--     judged-told, judged-barred                     what is refused, or 13, is the reply
 --     barred-kept                                    the output of a question that is answered so stays as it was
 --     high-reply, above                              reply, then numbers and output of `low_floor`, of one shape or many points
 --     pair-reply, above-pair                         the same of two shapes, one of which is on a floor above its limit
-use Rattle.std.specs.Prelude.{◌≡◌, refl, Bool, true, false, cond, ◌||◌, List, [], ◌∷◌, ◌++◌, ℕ, eqb, ltb, ℤ}
+use Rattle.std.specs.Prelude.{◌≡◌, refl, Bool, true, false, cond, ◌||◌, List, [], ◌∷◌, ◌++◌, ℕ, eqb, ltb, ℤ, Result, Ok, Err, OnOk, IfErr}
 use Rattle.std.proofs.Common.{sym, ◌∙◌, ap, eqb-true}
 use Rattle.plane.specs.Limits.{max_floor}
 use Rattle.plane.specs.Reply.{Reply, answered, refused, Row, row, first_row, NoneApply}
@@ -16,7 +18,10 @@ use Rattle.plane.proofs.theory.refusals.Rows.{first_row-append, first_row-given,
 use Rattle.plane.proofs.theory.refusals.Accept.{valid→accepted}
 use Rattle.plane.proofs.theory.refusals.Points.{points→accepted}
 use Rattle.plane.proofs.theory.refusals.Asked.{asked-kept}
-use Rattle.admission.specs.Admission.{Refuses}
+use Rattle.admission.specs.declared.answer.Refusal.{Refusal}
+use Rattle.admission.specs.Answer.{of_refusal}
+use Rattle.admission.specs.Admission.{Refuses, Judged}
+use Rattle.admission.specs.theory.Judged.{refusal-of, refuses-join}
 use Rattle.wire.specs.Told.{crossed}
 use Rattle.crossing.specs.LowFloor.{low_floor, barred}
 
@@ -25,6 +30,21 @@ barred-refused f = f.is ∙ sym (first_row-given _ f.first)
 
 barred-passed : (rows : List Row) → NoneApply rows → refused 13 [] ≡ barred rows
 barred-passed rows n = sym (first_row-none rows _ n)
+
+pub judged-told : {T : Type 0} {rows : List Row} {ns : List ℕ} (x : Result Unit Refusal) → Judged T rows x → (T
+    → refused 13 [] ≡ barred rows)
+    → OnOk x (ns ≡ crossed (refused 13 [])) → IfErr x (λ r. ns ≡ crossed (of_refusal r)) → ns ≡ crossed (barred rows)
+judged-told (Ok _) j thirteen ok err = ok ∙ ap crossed (thirteen (j.valid refl))
+judged-told (Err r) j thirteen ok err = err ∙ ap crossed (barred-refused (refusal-of j))
+
+pub judged-barred : {T : Type 0} {rows : List Row} {ns : List ℕ} (x : Result Unit Refusal) → Judged T rows x → (T → NoneApply rows)
+    → OnOk x (ns ≡ crossed (refused 13 [])) → IfErr x (λ r. ns ≡ crossed (of_refusal r)) → ns ≡ crossed (barred rows)
+judged-barred {rows = rows} x j n ok err = judged-told x j (λ t. barred-passed rows (n t)) ok err
+
+-- one judging after another that passed
+pub judged-next : {T U : Type 0} (vs : List Row) {ws : List Row} {x : Result Unit Refusal} → T → NoneApply vs → Judged U ws x
+    → Judged (T × U) (vs ++ ws) x
+judged-next vs t n j = record { valid = λ e. (t, j.valid e); no = λ r e. refuses-join vs n (j.no r e) }
 
 pub barred-shape : (l : List ℤ) → Valid l → refused 13 [] ≡ barred (shape_rows 1 l)
 barred-shape l v = barred-passed (shape_rows 1 l) (valid→accepted l 1 v)

@@ -5,35 +5,29 @@ use native.Mathlib.Omega.{arith}
 use borrow.Author.Tests.{lt-ltb, le-ltb, ltb-false}
 use lib.Dec.{ltb}
 use Rattle.plane.specs.Limits.{max_corners}
-use Rattle.plane.specs.Reply.{row, NoneApply, here}
+use Rattle.plane.specs.Reply.{row, here}
 use Rattle.plane.proofs.theory.refusals.Rows.{none-join}
 use Rattle.delivery.specs.Fit.{sized_rows}
-use Rattle.admission.specs.theory.Judged.{refuses, refuses-append, refuses-join, passes, turns-away}
+use Rattle.admission.specs.theory.Judged.{refuses, refuses-append, refuses-join, passes, turns-away, held, refusal-of, hands-on}
 use Rattle.delivery.proofs.fits.Goals as goal
-use Rattle.delivery.proofs.fits.Goals.{In_default}
 
--- past its size neither 6 nor 7 applies
-good : (c : In_default) → let args = c.args in NoneApply (sized_rows args.n args.far)
-good c = c.sized.ensures.valid c.in_default.is
-
-pub returns-in-No : goal.returns-in-No
-returns-in-No c =
+pub returns-in_err-sized : goal.returns-in_err-sized
+returns-in_err-sized c =
     let args = c.args in
-    turns-away (refuses-append (row 8 (ltb args.room (2 * args.n)) [] ∷ [])
-    (c.sized.ensures.no _ c.in-No.is))
+    hands-on _ _ c.from_residual.ensures.1 (refuses-append (row 8 (ltb args.room (2 * args.n)) [] ∷ []) (refusal-of c.in_err-sized.ensures))
 
 pub overflow_mul-n : goal.overflow_mul-n
 unfolding max_corners
-overflow_mul-n c = omega (arith, ltb-false max_corners c.args.n (good c).0)
+overflow_mul-n c = omega (arith, ltb-false max_corners c.args.n (held c.in_ok-sized.ensures).0)
 
 pub returns-then-room-n : goal.returns-then-room-n
 returns-then-room-n c =
     let args = c.args in
-    turns-away (refuses-join (sized_rows args.n args.far) (good (goal.at.returns-then-room-n c).In_default)
+    turns-away (refuses-join (sized_rows args.n args.far) (held c.in_ok-sized.ensures)
     (refuses (here (lt-ltb _ _ c.if-room-n.true))))
 
 pub returns : goal.returns
 returns c =
     let args = c.args in
-    passes (none-join (sized_rows args.n args.far) (row 8 (ltb args.room (2 * args.n)) [] ∷ []) (good (goal.at.returns c).In_default)
+    passes (none-join (sized_rows args.n args.far) (row 8 (ltb args.room (2 * args.n)) [] ∷ []) (held c.in_ok-sized.ensures)
     (le-ltb _ _ c.if-room-n.false, tt))

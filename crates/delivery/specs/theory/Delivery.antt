@@ -5,7 +5,7 @@
 --     copied              a copy of the list is the shape's numbers, and all after them is kept
 --     made-delivered      what is delivered of the front of a buffer, where the shape that a question makes is; `front-paired`: its numbers
 --     sweep-delivered     the same of the shape of a sweep
-use Rattle.std.specs.Prelude.{◌≡◌, Bool, true, List, [], ◌∷◌, ◌++◌, ℕ, ◌%◌, ◌*◌, ◌+◌, ◌≤◌, ◌<◌, ltb, ℤ, take}
+use Rattle.std.specs.Prelude.{◌≡◌, Bool, true, List, [], ◌∷◌, ◌++◌, ℕ, ◌%◌, ◌*◌, ◌+◌, ◌≤◌, ◌<◌, ltb, ℤ, take, Result}
 use Rattle.std.proofs.Math.Path.{sym, ap, ap₂}
 use Rattle.std.proofs.Common.{◌∙◌, subst, true≢false}
 use native.Mathlib.Omega.{arith}
@@ -28,14 +28,14 @@ use Rattle.plane.proofs.theory.sweep.SweepSize.{sweep-size}
 use Rattle.polygon.specs.Front.{Front}
 use Rattle.polygon.specs.theory.Fronts.{front-points, front_length}
 use Rattle.sums.specs.Size.{Reckoned, exact, enough, many}
-use Rattle.admission.specs.declared.Admission.{Admission}
+use Rattle.admission.specs.declared.answer.Refusal.{Refusal}
 use Rattle.admission.specs.Admission.{Refuses, Judged}
 use Rattle.delivery.specs.Fit.{sized_rows, fit_rows}
 
 -- ---- the size of a shape
 
 -- what is judged by one table is judged by an equal one
-pub judged-by : {vs ws : List Row} → vs ≡ ws → {x : Admission} → Judged (NoneApply vs) vs x → Judged (NoneApply ws) ws x
+pub judged-by : {vs ws : List Row} → vs ≡ ws → {x : Result Unit Refusal} → Judged (NoneApply vs) vs x → Judged (NoneApply ws) ws x
 judged-by e {x} j = subst (λ (rows : List Row). Judged (NoneApply rows) rows x) e j
 
 module _ (S : List Point) where
@@ -65,7 +65,7 @@ module _ (S : List Point) where
       }
 
       -- the shape is judged by its size
-      pub fit-judged : Reckoned (length S) (length old) n → {x : Admission}
+      pub fit-judged : Reckoned (length S) (length old) n → {x : Result Unit Refusal}
           → Judged (NoneApply (fit_rows n far (length old))) (fit_rows n far (length old)) x
           → Judged (NoneApply (answer_rows S old)) (answer_rows S old) x
       unfolding no_room too_many

@@ -1,8 +1,7 @@
 -- `face_towards` meets its contract, a case each: by what the first furthest corner's neighbours have.
 use mathlib.Core.Path.{◌≡◌, sym, ◌∙◌, ap}
-use mathlib.Core.Bool.{Bool, false}
-use Prim.Native.Nat.{ℕ, ◌-◌, ◌<◌}
-use mathlib.Core.Logic.{inl, inr}
+use mathlib.Core.Bool.{Bool}
+use Prim.Native.Nat.{ℕ, ◌<◌}
 use native.Mathlib.Omega.{arith}
 use lib.IntN.{ℤ}
 use lib.ListN.{length}
@@ -17,10 +16,10 @@ use Rattle.plane.proofs.theory.face.FirstFurthest.{furthest-greatest}
 use Rattle.polygon.specs.Point.{at}
 use Rattle.direction.specs.theory.Face.{face-over-end, face-onward, face-alone}
 use Rattle.direction.proofs.face_towards.Goals as goal
-use Rattle.direction.proofs.face_towards.Goals.{After-count-n, After-first_furthest-here, After-value_at-value, Joined-here-eq0}
-
-pub first_furthest-here-requires : goal.first_furthest-here-requires
-first_furthest-here-requires c = let pre = c.requires in (pre.1.some, pre.0, pre.2)
+use Rattle.direction.proofs.face_towards.Goals.{After-count-n, After-first_furthest-here, After-value_at-value}
+use Rattle.direction.proofs.face_towards.Goals.{else-here-eq0-via-then-here-eq0+then-n-gt2+else-reaches, else-here-eq0-via-else-here-eq0}
+use Rattle.direction.proofs.face_towards.Goals.{else-here-eq0-via-then-here-eq0+else-n-gt2, else-next-n-via-else-next-n}
+use Rattle.direction.proofs.face_towards.Goals.{else-next-n-via-then-next-n+else-reaches-2}
 
 -- the position that was found is one of the list
 here_in : (c : After-first_furthest-here) → c.first_furthest-here.result < length (points c.args.list.now)
@@ -43,9 +42,6 @@ value-is c =
     ∙ ap (λ (i : ℕ). direction_value (at c.args.d) (corner ps i)) c.first_furthest-here.ensures
     ∙ sym (furthest-greatest (at c.args.d) ps c.requires.1.some).has
 
-pub overflow_sub-end : goal.overflow_sub-end
-overflow_sub-end c = omega (arith, c.count-n.ensures, here_in c.before.before)
-
 pub overflow_add-next : goal.overflow_add-next
 overflow_add-next c = omega (arith, here_in c.before.before, c.count-n.ensures, c.count-n.type_inv)
 
@@ -66,8 +62,8 @@ pub returns-then-reaches : goal.returns-then-reaches
 returns-then-reaches c =
     let face = face-over-end c.requires.1 c.requires.3 c.first_furthest-here.ensures c.count-n.ensures
     c.if-here-eq0.true (omega arith)
-    (sym (test-is c.before.before.before.before _ c.reaches.ensures) ∙ c.if-reaches.true) in
-    record { first_value = face.0; last_value = face.1; value_value = value-is c.before.before.before.before.before }
+    (sym (test-is (goal.at.returns-then-reaches c).After-count-n _ c.reaches.ensures) ∙ c.if-reaches.true) in
+    record { first_value = face.0; last_value = face.1; value_value = value-is (goal.at.returns-then-reaches c).After-value_at-value }
 
 pub reaches-requires-then-next-n : goal.reaches-requires-then-next-n
 reaches-requires-then-next-n c =
@@ -77,27 +73,21 @@ reaches-requires-then-next-n c =
 pub returns-then-reaches-2 : goal.returns-then-reaches-2
 returns-then-reaches-2 c =
     let face = face-onward c.requires.1 c.requires.3 c.first_furthest-here.ensures c.count-n.ensures
-    c.if-next-n.true (sym (test-is c.before.before.before.before _ c.reaches-then-next-n.ensures) ∙ c.if-reaches-2.true) in
-    record { first_value = face.0; last_value = face.1; value_value = value-is c.before.before.before.before.before }
-
--- past the first test the last corner of the list is not furthest, where it would be the first of the face
-not-over-end : (c : Joined-here-eq0) → let args = c.args in
-    c.first_furthest-here.result ≡ 0 → 2 < c.count-n.result
-    → is_furthest (at args.d) (points args.list.now) (c.count-n.result - 1) ≡ false
-not-over-end c e h = elim c.if-here-eq0.branch [
-  | goal.then-here-eq0+then-n-gt2+else-reaches w ↦ sym (test-is c.before _ w.reaches.ensures) ∙ w.if-reaches.false
-  | goal.else-here-eq0 w ↦ elim w.else-here-eq0.either [ inl r ↦ absurd (omega (arith, h, r.1)) | inr r ↦ absurd (r e) ]
-]
-
-pub returns-else-reaches-2 : goal.returns-else-reaches-2
-returns-else-reaches-2 c =
-    let face = face-alone c.requires.1 c.requires.3 c.first_furthest-here.ensures c.count-n.ensures
-    (not-over-end c.before.before.before)
-    (λ h. sym (test-is c.before.before.before.before _ c.reaches-then-next-n.ensures) ∙ c.if-reaches-2.false) in
-    record { first_value = face.0; last_value = face.1; value_value = value-is c.before.before.before.before.before }
+    c.if-next-n.true (sym (test-is (goal.at.returns-then-reaches-2 c).After-count-n _ c.reaches-then-next-n.ensures)
+    ∙ c.if-reaches-2.true) in
+    record { first_value = face.0; last_value = face.1; value_value = value-is (goal.at.returns-then-reaches-2 c).After-value_at-value }
 
 pub returns-else-next-n : goal.returns-else-next-n
 returns-else-next-n c =
+    let at_count = (goal.at.returns-else-next-n c).After-count-n in
     let face = face-alone c.requires.1 c.requires.3 c.first_furthest-here.ensures c.count-n.ensures
-    (not-over-end c.before) (λ h. absurd (omega (arith, c.if-next-n.false))) in
-    record { first_value = face.0; last_value = face.1; value_value = value-is c.before.before.before }
+    (λ e h. elim c.else-here-eq0.branch [
+      | else-here-eq0-via-then-here-eq0+then-n-gt2+else-reaches w ↦ sym (test-is at_count _ w.reaches.ensures) ∙ w.if-reaches.false
+      | else-here-eq0-via-then-here-eq0+else-n-gt2 w ↦ absurd (omega (arith, h, w.if-n-gt2.false))
+      | else-here-eq0-via-else-here-eq0 w ↦ absurd (w.if-here-eq0.false e)
+    ])
+    (λ h. elim c.else-next-n.branch [
+      | else-next-n-via-then-next-n+else-reaches-2 w ↦ sym (test-is at_count _ w.reaches-then-next-n.ensures) ∙ w.if-reaches-2.false
+      | else-next-n-via-else-next-n w ↦ absurd (omega (arith, h, w.if-next-n.false))
+    ]) in
+    record { first_value = face.0; last_value = face.1; value_value = value-is (goal.at.returns-else-next-n c).After-value_at-value }

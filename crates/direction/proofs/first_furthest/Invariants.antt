@@ -1,4 +1,3 @@
-use Prim.Native.Nat.{◌-◌, ◌≤◌}
 use Rattle.plane.specs.Point.{points, corner}
 use Rattle.plane.specs.Direction.{value as direction_value}
 use Rattle.polygon.specs.Point.{at}
@@ -6,8 +5,4 @@ use Rattle.plane.proofs.theory.face.FirstFurthest.{Greatest}
 use Rattle.direction.proofs.first_furthest.Given as goal
 
 abbrev pub invariant-loop-i : goal.invariant-loop-i
-invariant-loop-i l =
-    Greatest (λ k. direction_value (at l.d) (corner (points l.list) k)) l.i l.position l.value × (l.i ≤ l.n)
-
-abbrev pub decreases-loop-i : goal.decreases-loop-i
-decreases-loop-i l = l.n - l.i
+invariant-loop-i l = Greatest (λ k. direction_value (at l.d) (corner (points l.list) k)) l.i l.position l.value

@@ -1,54 +1,49 @@
--- `reach` meets its contract. The invariant: the greatest of the values before i, at some position; the measure is what is left.
+-- `reach` meets its contract. The invariant: the greatest of the values before i, at some position.
 use mathlib.Core.Path.{◌≡◌, refl, sym, ◌∙◌, ap}
+use mathlib.Core.Bool.{Bool, cond}
 use native.Mathlib.Omega.{arith}
+use lib.IntN.{ℤ}
 use lib.ListN.{length}
-use lib.Signed.{lt_z}
 use mir.Syntax.{w64}
-use mir.Val.{to_z}
+use mir.Val.{SFits, to_z, of_z}
+use Rattle.std.specs.Int.{int_max}
 use Rattle.integer.specs.Machine.{result-is}
-use Rattle.integer.specs.Order.{lt_z-true, lt_z-false}
+use Rattle.integer.specs.Order.{Compared, is_below, is-equal, is-above, compared, weaken, le_of_eq, lt-lt_z, le-lt_z}
+use Rattle.plane.proofs.theory.face.FirstFurthest.{Greatest}
+use Rattle.std.specs.Prelude.{ℕ, ◌+◌, ◌⊎◌, ◌≤ℤ◌, ◌<ℤ◌}
+use Rattle.std.proofs.Common.{inl, inr}
 use Rattle.plane.specs.Point.{points}
-use Rattle.direction.specs.theory.Furthest.{greatest-start, greatest-keep, greatest-rise, greatest-support}
+use Rattle.direction.specs.theory.Furthest.{greatest-keep, greatest-rise, greatest-support}
 use Rattle.direction.proofs.reach.Goals as goal
-use Rattle.direction.proofs.reach.Goals.{then-greatest-next, else-greatest-next}
 
-pub count-n-requires : goal.count-n-requires
-count-n-requires c = tt
+-- the greater of the two is the greatest so far
+more : {f : ℕ → ℤ} {i k : ℕ} {z z' : ℤ} → Greatest f i k z → z' ≡ int_max z (f i) → (j : ℕ) × Greatest f (i + 1) j z'
+more {f} {i} {k} {z} {z'} g e = go (compared z (f i))
+  where
+    first : f i ≤ℤ z → (z ≡ f i) ⊎ (f i <ℤ z) → z' ≡ z
+    first h (inl s) = e ∙ ap (λ (b : Bool). cond b z (f i)) (le-lt_z (le_of_eq s)) ∙ sym s
+    first h (inr l) = e ∙ ap (λ (b : Bool). cond b z (f i)) (lt-lt_z l)
 
-pub value_at-greatest-requires : goal.value_at-greatest-requires
-value_at-greatest-requires c = (c.requires.0, c.requires.1, c.requires.2)
+    go : Compared z (f i) → (j : ℕ) × Greatest f (i + 1) j z'
+    go (is_below h) = (i, greatest-rise f g h refl (e ∙ ap (λ (b : Bool). cond b z (f i)) (le-lt_z (weaken h))))
+    go (is-equal s) = (k, greatest-keep f g (le_of_eq (sym s)) refl (first (le_of_eq (sym s)) (inl s)))
+    go (is-above h) = (k, greatest-keep f g (weaken h) refl (first (weaken h) (inr h)))
 
-pub loop-i-init : goal.loop-i-init
-loop-i-init c = (
-  (0, greatest-start _ _ (result-is w64 c.value_at-greatest.type_inv c.value_at-greatest.ensures)),
-  omega (arith, c.count-n.ensures, c.requires.0),
-)
+-- the library's greater number, read from its bits
+told : {x y z : ℤ} → SFits w64 x → x ≡ y → y ≡ z → to_z w64 (of_z w64 x) ≡ z
+told f e p = result-is w64 f.sfits (e ∙ p)
 
-pub value_at-next-requires : goal.value_at-next-requires
-value_at-next-requires c =
+pub value_at-requires : goal.value_at-requires
+value_at-requires c =
     (omega (arith, c.count-n.ensures), c.requires.1, c.requires.2)
-
-pub overflow_add-i : goal.overflow_add-i
-overflow_add-i c = omega arith
-
-pub loop-i-smaller : goal.loop-i-smaller
-loop-i-smaller c = omega arith
 
 pub loop-i-preserved : goal.loop-i-preserved
 loop-i-preserved c =
-    let (k, found) = c.loop-i.invariant.0 in
-    let is = result-is w64 c.value_at-next.type_inv c.value_at-next.ensures in
-    let test = ap (lt_z (to_z w64 c.loop-i.greatest-bits)) is in (
-      elim c.if-greatest-next.branch [
-        | then-greatest-next w ↦
-            (c.loop-i.i, greatest-rise _ found (lt_z-true (sym test ∙ w.if-greatest-next.true)) refl (w.greatest-is ∙ is))
-        | else-greatest-next w ↦ (k, greatest-keep _ found (lt_z-false (sym test ∙ w.if-greatest-next.false)) refl w.greatest-is)
-      ],
-      omega arith,
-    )
+    let is = result-is w64 c.value_at.type_inv c.value_at.ensures in
+    let greater = ap (int_max (to_z w64 c.loop-i.greatest-bits)) is in
+    more c.loop-i.invariant.1 (search (told, greater) depth 20)
 
 pub returns : goal.returns
 returns c =
-    let end : c.loop-i.i ≡ length (points c.args.list.now) =
-    omega (arith, c.count-n.ensures, c.loop-i.invariant.1, c.loop-i-test.false) in
-    greatest-support _ _ c.loop-i.invariant.0.1 end
+    let end : c.loop-i.i ≡ length (points c.args.list.now) = omega (arith, c.count-n.ensures, c.requires.0) in
+    greatest-support _ _ c.loop-i.invariant.1 end

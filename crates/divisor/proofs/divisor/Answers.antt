@@ -1,6 +1,8 @@
 -- `divisor` meets its contract: a number without its factors of two is odd, and the factors that both had are given back.
 use mathlib.Core.Path.{sym, ◌∙◌, ap}
-use Prim.Native.Nat.{◌*◌, ◌%◌, ◌^◌, ◌<◌}
+use Prim.Native.Nat.{ℕ, ◌*◌, ◌%◌, ◌^◌, ◌<◌, ◌≤◌, min}
+use Rattle.std.specs.Prelude.{◌≡◌, refl, Bool, true, false, nat_lt}
+use Rattle.std.proofs.Common.{ltb-true, ltb-false}
 use native.Mathlib.Omega.{arith}
 use lib.Count.{count_trailing_zeros}
 use Rattle.divisor.specs.Divisor.{gcd}
@@ -22,12 +24,6 @@ zeros-fit : (c : Else-b-eq0) → let args = c.args in (count_trailing_zeros 32 a
 zeros-fit c =
     (trailing-fits 32 _ (omega arith) c.ranges.a.fits, trailing-fits 32 _ (omega arith) c.ranges.b.fits)
 
-pub strip-requires : goal.strip-requires
-strip-requires c = omega (arith, zeros-fit c)
-
-pub strip-requires-2 : goal.strip-requires-2
-strip-requires-2 c = omega (arith, zeros-fit c.before)
-
 -- what is left of either number
 left : (c : After-strip-2) → let a = c.args.a in
     Factors a (count_trailing_zeros 32 a) c.strip.result
@@ -37,21 +33,26 @@ right : (c : After-strip-2) → let b = c.args.b in
     Factors b (count_trailing_zeros 32 b) c.strip-2.result
 right c = trailing-factors 32 _ (omega arith) c.ranges.b.fits c.strip-2.ensures
 
+-- the fewer factors are those that both have
+given-back : {a b s t m x y : ℕ} → Factors a s x → Factors b t y → m ≡ min s t → 0 < a → 0 < b → a < 2 ^ 32 → b < 2 ^ 32
+    → gcd x y * 2 ^ m % 2 ^ 32 ≡ gcd a b
+given-back {a} {b} {s} {t} {m} {x} {y} f g e pa pb ha hb = go (nat_lt t s) refl
+  where
+    go : (r : Bool) → nat_lt t s ≡ r → gcd x y * 2 ^ m % 2 ^ 32 ≡ gcd a b
+    go false k =
+        let h : s ≤ t = ltb-false t s k in
+        let same : m ≡ s = omega (arith, e) in
+        ap (λ z. gcd x y * 2 ^ z % 2 ^ 32) same ∙ gcd-shifted 32 f g h pa ha
+    go true k =
+        let h : t ≤ s = omega (arith, ltb-true t s k) in
+        let same : m ≡ t = omega (arith, e) in
+        ap (λ z. gcd x y * 2 ^ z % 2 ^ 32) same ∙ ap (λ z. z * 2 ^ t % 2 ^ 32) (gcd-comm x y) ∙ gcd-shifted 32 g f h pb hb ∙ gcd-comm b a
+
 pub odd_divisor-odd-requires : goal.odd_divisor-odd-requires
 odd_divisor-odd-requires c = record { odd = ((left c).odd, (right c).odd) }
 
-pub overflow_shl-result : goal.overflow_shl-result
-overflow_shl-result c = (zeros-fit c.before.before.before.before).0
-
-pub returns-then-s-t : goal.returns-then-s-t
-returns-then-s-t c =
-    ap (λ z. z * 2 ^ count_trailing_zeros 32 c.args.a % 2 ^ 32) c.odd_divisor-odd.ensures
-    ∙ gcd-shifted 32 (left c.before.before) (right c.before.before) (omega arith) (omega arith) c.ranges.a.fits
-
-pub overflow_shl-result-2 : goal.overflow_shl-result-2
-overflow_shl-result-2 c = (zeros-fit c.before.before.before.before).1
-
 pub returns : goal.returns
 returns c =
-    ap (λ z. z * 2 ^ count_trailing_zeros 32 c.args.b % 2 ^ 32) (c.odd_divisor-odd.ensures ∙ gcd-comm c.strip.result _)
-    ∙ gcd-shifted 32 (right c.before.before) (left c.before.before) (omega arith) (omega arith) c.ranges.b.fits ∙ gcd-comm c.args.b _
+    let at = (goal.at.returns c).After-strip-2 in
+    ap (λ z. z * 2 ^ c.min.result % 2 ^ 32) c.odd_divisor-odd.ensures
+    ∙ given-back (left at) (right at) c.min.ensures (omega arith) (omega arith) c.ranges.a.fits c.ranges.b.fits

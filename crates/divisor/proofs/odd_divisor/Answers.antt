@@ -1,6 +1,6 @@
 -- `odd_divisor` meets its contract. The invariant: both numbers are odd, and their divisor is the one sought; the measure is their sum.
 use native.Mathlib.Omega.{arith}
-use Rattle.divisor.specs.Halving.{halved-swap, shift_fits, next-less, halved-next, halved-end}
+use Rattle.divisor.specs.Halving.{halved-swap, next-less, halved-next, halved-end}
 use Rattle.divisor.proofs.odd_divisor.Goals as goal
 
 pub loop-x-init : goal.loop-x-init
@@ -12,9 +12,6 @@ loop-x-init c = record {
   same = λ g p. p;
 }
 
-pub strip-y-requires : goal.strip-y-requires
-strip-y-requires c = shift_fits c.loop-x.invariant c.if-x-y.true
-
 pub loop-x-smaller-then-x-y : goal.loop-x-smaller-then-x-y
 loop-x-smaller-then-x-y c =
     omega (arith, next-less c.loop-x.invariant c.if-x-y.true _ c.strip-y.ensures)
@@ -22,9 +19,6 @@ loop-x-smaller-then-x-y c =
 pub loop-x-preserved-then-x-y : goal.loop-x-preserved-then-x-y
 loop-x-preserved-then-x-y c =
     halved-next c.loop-x.invariant c.if-x-y.true _ c.strip-y.ensures
-
-pub strip-x-requires : goal.strip-x-requires
-strip-x-requires c = shift_fits (halved-swap c.loop-x.invariant) (omega arith)
 
 pub loop-x-smaller : goal.loop-x-smaller
 loop-x-smaller c =

@@ -1,16 +1,14 @@
 -- `driven` meets its contract: a list, a place or the grown obstacle is refused, or what is met is answered.
-use mathlib.Core.Path.{◌≡◌, sym, ◌∙◌, ap}
-use mathlib.Core.Bool.{false}
+use mathlib.Core.Path.{sym, ◌∙◌, ap}
 use mathlib.Core.List.{List, [], ◌∷◌, ◌++◌}
 use lib.IntN.{ℤ, pos}
 use Rattle.plane.specs.Point.{points}
-use Rattle.plane.specs.Refusal.{some_outside}
-use Rattle.plane.specs.Reply.{answered, Row, NoneApply}
+use Rattle.plane.specs.Reply.{answered, Row}
 use Rattle.plane.specs.Output.{size_rows}
-use Rattle.plane.specs.Floor.{Floored, on, Same}
+use Rattle.plane.specs.Floor.{Floored, on}
 use Rattle.plane.specs.Question.{Question}
 use Rattle.polygon.specs.Point.{at}
-use Rattle.admission.specs.theory.Judged.{refuses-append, refuses-join}
+use Rattle.admission.specs.theory.Judged.{refuses-append, refuses-join, held, refusal-of, handed-on}
 use Rattle.admission.specs.theory.Door.{shapes-refused, rest-refused}
 use Rattle.growth.specs.Grown.{grown}
 use Rattle.passage.proofs.theory.Found.{grown-valid}
@@ -18,7 +16,7 @@ use Rattle.motion.specs.Contact.{place_row, ask_contact}
 use Rattle.motion.proofs.theory.Replies.{contact-answers}
 use Rattle.drive_questions.proofs.Places.{in-range}
 use Rattle.drive_questions.proofs.driven.Goals as goal
-use Rattle.drive_questions.proofs.driven.Goals.{In_default, In_default-admit_grown, In_default-admit_place, In_default-admit_place-2, Start}
+use Rattle.drive_questions.proofs.driven.Goals.{Start}
 
 -- the two shapes, and what is asked of them
 abbrev one : Start → Floored
@@ -33,68 +31,51 @@ asked c = ask_contact (one c) (other c) (at c.args.from) (at c.args.to)
 abbrev rows : Start → List Row
 rows c = size_rows (grown (points c.args.obstacle.now) (points c.args.cart.now))
 
--- past the judging they are shapes on one floor, the places are in range, and the grown obstacle is a shape too
-shapes : (c : In_default) → Same (one (goal.at.In_default c).Start) (other (goal.at.In_default c).Start)
-shapes c = c.admit_pair.ensures.valid c.in_default.is
+pub returns-in_err-admit_pair : goal.returns-in_err-admit_pair
+returns-in_err-admit_pair c =
+    rw (handed-on _ _ c.from_residual.ensures.1)
+    (shapes-refused (asked (goal.at.returns-in_err-admit_pair c).Start) (refusal-of c.in_err-admit_pair.ensures)).0
 
-from-near : (c : In_default-admit_place) → let p = c.args.from in
-    some_outside (p.x ∷ p.y ∷ []) ≡ false
-from-near c = c.admit_place.ensures.valid c.in_default-admit_place.is
+pub returns-in_err-admit_place : goal.returns-in_err-admit_place
+returns-in_err-admit_place c =
+    rw (handed-on _ _ c.from_residual-in_err-admit_place.ensures.1)
+    (rest-refused (asked (goal.at.returns-in_err-admit_place c).Start) (held c.in_ok-admit_pair.ensures)
+    (refuses-append (place_row 4 (at c.args.to) ∷ rows (goal.at.returns-in_err-admit_place c).Start)
+    (refusal-of c.in_err-admit_place.ensures))).0
 
-to-near : (c : In_default-admit_place-2) → let p = c.args.to in
-    some_outside (p.x ∷ p.y ∷ []) ≡ false
-to-near c = c.admit_place-2.ensures.valid c.in_default-admit_place-2.is
-
-grown-fits : (c : In_default-admit_grown)
-    →
-    NoneApply (rows (goal.at.In_default-admit_grown c).Start)
-grown-fits c = c.admit_grown.ensures.valid c.in_default-admit_grown.is
-
-pub returns-in-No : goal.returns-in-No
-returns-in-No c =
-    (shapes-refused (asked (goal.at.returns-in-No c).Start) (c.admit_pair.ensures.no _ c.in-No.is)).0
-
-pub returns-in-No-admit_place : goal.returns-in-No-admit_place
-returns-in-No-admit_place c =
-    (rest-refused (asked (goal.at.returns-in-No-admit_place c).Start) (shapes (goal.at.returns-in-No-admit_place c).In_default)
-    (refuses-append (place_row 4 (at c.args.to) ∷ rows (goal.at.returns-in-No-admit_place c).Start)
-    (c.admit_place.ensures.no _ c.in-No-admit_place.is))).0
-
-pub returns-in-No-admit_place-2 : goal.returns-in-No-admit_place-2
-returns-in-No-admit_place-2 c =
-    (rest-refused (asked (goal.at.returns-in-No-admit_place-2 c).Start) (shapes (goal.at.returns-in-No-admit_place-2 c).In_default)
-    (refuses-join (place_row 3 (at c.args.from) ∷ []) (from-near (goal.at.returns-in-No-admit_place-2 c).In_default-admit_place, tt)
-    (refuses-append (rows (goal.at.returns-in-No-admit_place-2 c).Start) (c.admit_place-2.ensures.no _ c.in-No-admit_place-2.is)))).0
+pub returns-in_err-admit_place-2 : goal.returns-in_err-admit_place-2
+returns-in_err-admit_place-2 c =
+    rw (handed-on _ _ c.from_residual-in_err-admit_place-2.ensures.1)
+    (rest-refused (asked (goal.at.returns-in_err-admit_place-2 c).Start) (held c.in_ok-admit_pair.ensures)
+    (refuses-join (place_row 3 (at c.args.from) ∷ []) (held c.in_ok-admit_place.ensures, tt)
+    (refuses-append (rows (goal.at.returns-in_err-admit_place-2 c).Start) (refusal-of c.in_err-admit_place-2.ensures)))).0
 
 pub admit_grown-requires : goal.admit_grown-requires
-admit_grown-requires c = let all = shapes (goal.at.admit_grown-requires c).In_default in (all.first-valid, all.second-valid)
+admit_grown-requires c = let all = held c.in_ok-admit_pair.ensures in (all.first-valid, all.second-valid)
 
-pub returns-in-No-admit_grown : goal.returns-in-No-admit_grown
-returns-in-No-admit_grown c =
-    (rest-refused (asked (goal.at.returns-in-No-admit_grown c).Start) (shapes (goal.at.returns-in-No-admit_grown c).In_default)
-    (refuses-join (place_row 3 (at c.args.from) ∷ place_row 4 (at c.args.to) ∷ []) (
-      from-near (goal.at.returns-in-No-admit_grown c).In_default-admit_place,
-      (to-near (goal.at.returns-in-No-admit_grown c).In_default-admit_place-2, tt),
-    )
-    (c.admit_grown.ensures.no _ c.in-No-admit_grown.is))).0
+pub returns-in_err-admit_grown : goal.returns-in_err-admit_grown
+returns-in_err-admit_grown c =
+    rw (handed-on _ _ c.from_residual-in_err-admit_grown.ensures.1)
+    (rest-refused (asked (goal.at.returns-in_err-admit_grown c).Start) (held c.in_ok-admit_pair.ensures)
+    (refuses-join (place_row 3 (at c.args.from) ∷ place_row 4 (at c.args.to) ∷ [])
+    (held c.in_ok-admit_place.ensures, (held c.in_ok-admit_place-2.ensures, tt)) (refusal-of c.in_err-admit_grown.ensures))).0
 
-pub first-requires : goal.first-requires
-first-requires c =
-    let all = shapes (goal.at.first-requires c).In_default in (
+pub first-answer-requires : goal.first-answer-requires
+first-answer-requires c =
+    let all = held c.in_ok-admit_pair.ensures in (
       all.first-valid,
       all.second-valid,
-      grown-valid _ _ all.first-valid.shape.some all.second-valid.shape.some (grown-fits c),
+      grown-valid _ _ all.first-valid.shape.some all.second-valid.shape.some (held c.in_ok-admit_grown.ensures),
       record {
-        from-near = in-range _ (from-near (goal.at.first-requires c).In_default-admit_place);
-        to-near = in-range _
-            (to-near (goal.at.first-requires c).In_default-admit_place-2);
+        from-near = in-range _ (held c.in_ok-admit_place.ensures);
+        to-near = in-range _ (held c.in_ok-admit_place-2.ensures);
       },
     )
 
 pub returns : goal.returns
 returns c =
-    c.met.ensures ∙ ap (λ (vs : List ℤ). answered (vs ++ (pos c.args.f ∷ []))) c.first.ensures
-    ∙ sym (contact-answers (one (goal.at.returns c).Start) (other (goal.at.returns c).Start) _ _ (shapes (goal.at.returns c).In_default) (
-      from-near (goal.at.returns c).In_default-admit_place,
-      (to-near (goal.at.returns c).In_default-admit_place-2, grown-fits (goal.at.returns c).In_default-admit_grown),
+    ap (λ (vs : List ℤ). answered (vs ++ (pos c.args.f ∷ []))) c.first-answer.ensures
+    ∙ sym (contact-answers (one (goal.at.returns c).Start) (other (goal.at.returns c).Start) _ _ (held c.in_ok-admit_pair.ensures) (
+      held c.in_ok-admit_place.ensures,
+      (held c.in_ok-admit_place-2.ensures, held c.in_ok-admit_grown.ensures),
     ))

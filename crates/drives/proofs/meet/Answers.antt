@@ -3,9 +3,9 @@ use Rattle.plane.proofs.theory.refusals.Rows.{first-not-none}
 use Rattle.passage.proofs.theory.Found.{grown-valid}
 use Rattle.drives.proofs.meet.Goals as goal
 
-pub returns-in-No : goal.returns-in-No
-returns-in-No c =
-    let refused = c.admit_grown.ensures.no _ c.in-No.is in
+pub returns-in-Err : goal.returns-in-Err
+returns-in-Err c =
+    let refused = c.admit_grown.ensures.no _ c.in-Err.is in
     λ none. absurd (first-not-none refused.first none)
 
 pub first-requires : goal.first-requires
@@ -13,9 +13,9 @@ first-requires c =
     let pre = c.requires in (
       pre.0,
       pre.1,
-      grown-valid _ _ pre.0.shape.some pre.1.shape.some (c.admit_grown.ensures.valid c.in_default.is),
+      grown-valid _ _ pre.0.shape.some pre.1.shape.some (c.admit_grown.ensures.valid c.in-Ok.is),
       pre.2,
     )
 
-pub returns : goal.returns
-returns c = λ none. c.first.ensures
+pub returns-in-Ok : goal.returns-in-Ok
+returns-in-Ok c = λ none. c.first.ensures

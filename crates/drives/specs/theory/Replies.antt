@@ -2,7 +2,7 @@
 --     drive-admitted, drive-answers    an answer is given exactly if no row applies
 --     drive-refused, drive-damaged, drive-empty, drive-far, drive-beyond, drive-large, drive-found     row by row, as the code asks
 --     empty-refused, departure-refused, destination-refused     20 and 3
-use Rattle.std.specs.Prelude.{◌≡◌, true, false, List, [], ◌∷◌, ◌++◌, ℕ, ◌<◌, ltb, ℤ, pos, length}
+use Rattle.std.specs.Prelude.{◌≡◌, true, false, List, [], ◌∷◌, ◌++◌, ℕ, ◌<◌, ltb, ℤ, pos, length, Err}
 use Rattle.std.proofs.Common.{sym, ◌∙◌, ap, le-ltb}
 use Rattle.plane.specs.Point.{Point}
 use Rattle.plane.specs.Refusal.{some_outside, shape_rows, Valid}
@@ -17,7 +17,7 @@ use Rattle.journal.specs.Format.{records}
 use Rattle.journal.specs.Reading.{damaged, damage_row}
 use Rattle.journal.specs.Current.{too_few_row}
 use Rattle.journal.specs.Survey.{surveyed}
-use Rattle.journal.specs.declared.survey.Surveyed.TheVariants as Surveyed
+use Rattle.journal.specs.declared.survey.Damaged.{Damaged}
 use Rattle.motion.specs.Contact.{place_row}
 use Rattle.gaps.specs.Gap.{on_floor, size_rows_of}
 use Rattle.gaps.proofs.theory.Replies.{damage-refuses}
@@ -41,8 +41,8 @@ module _ (b : List ℕ) (cart : Floored) (t u : Point) where
   drive-refused x = (shapes-refused q x).0
 
   module _ (v : Valid cart.list) where
-    pub drive-damaged : (p : ℕ) → surveyed b ≡ Surveyed.Bad p → refused 15 (p ∷ []) ≡ reply q
-    drive-damaged p h = (rest-refused q v (damage-refuses b p _ h)).0
+    pub drive-damaged : (d : Damaged) → surveyed b ≡ Err d → refused 15 (d.place ∷ []) ≡ reply q
+    drive-damaged d h = (rest-refused q v (damage-refuses b d _ h)).0
 
     module _ (sound : damaged (records b) ≡ false) where
       -- by the test of the code

@@ -3,7 +3,7 @@
 --     onward-elsewhere, onward-kept   the record at a place is looked at
 --     Searched, searched-start, -next, -end     the loop over a log
 --     Bare, bare-start, -next, -found, -end     the loop that looks for one shape on the floor
-use Rattle.std.specs.Prelude.{◌≡◌, refl, Bool, cond, ◌&&◌, ℕ, ◌*◌, ◌≤◌, length, drop}
+use Rattle.std.specs.Prelude.{◌≡◌, refl, Bool, cond, ◌&&◌, ℕ, ◌*◌, ◌≤◌, length, drop, Option, Some, None}
 use Rattle.std.proofs.Math.Path.{sym}
 use Rattle.std.proofs.Common.{◌∙◌, ap, ap₂, subst, arith, le-ltb, lt-ltb}
 use Rattle.std.proofs.Math.Bool.{true, false, not}
@@ -23,14 +23,14 @@ use Rattle.journal.proofs.theory.Survey.{next-inside}
 use Rattle.journal.proofs.theory.Stepping.{later-good}
 use Rattle.motion.specs.Contact.{contact, safe, contact_numbers}
 use Rattle.contact.specs.Share.{meeting_numbers}
-use Rattle.contact.specs.declared.drive.Meeting.{Meeting}
+use Rattle.answers.specs.declared.Meeting.{Meeting}
 use Rattle.gaps.specs.Gap.{grown_of, on_floor}
 use Rattle.gaps.specs.Search.{from, is_on, Walk}
 use Rattle.gaps.proofs.theory.Steps.{from_step, from_end, walk-next, walk-fits}
 use Rattle.gaps.proofs.theory.Read.{on-elsewhere, on-here}
 use Rattle.drives.specs.Drive.{is_met, is_as_soon, met_numbers, soonest_numbers, drive_numbers}
-use Rattle.drives.specs.Search.{is_latest, found_numbers, is_sooner, MetAs, kept_of, Met, Still, Onward}
-use Rattle.drives.specs.declared.Soonest.{Soonest}
+use Rattle.drives.specs.Search.{is_latest, found_numbers, is_sooner, soonest, MetAs, kept_of, Met, Still, Onward}
+use Rattle.answers.specs.declared.Drive.{Drive}
 use Rattle.drives.specs.theory.Soonest.{soonest-step}
 
 module _ (A : List Point) (t u : Point) where
@@ -44,7 +44,7 @@ module _ (A : List Point) (t u : Point) where
 
   -- ---- what contact tells of one
 
-  never_met : (r : List ℕ) → meeting_numbers Meeting.Never ≡ contact_numbers t u (grown_of A r) → is_met A t u r ≡ false
+  never_met : (r : List ℕ) → meeting_numbers None ≡ contact_numbers t u (grown_of A r) → is_met A t u r ≡ false
   unfolding is_met
   never_met r e = go (apart (t ∷ u ∷ []) (grown_of A r)) e
     where
@@ -56,29 +56,29 @@ module _ (A : List Point) (t u : Point) where
       go true k = refl
       go false k = absurd (let z : ◌≡◌ {A = ℕ} 0 1 = cc k in let x : ⊥ = omega arith in x)
 
-  at-met : (r : List ℕ) (a d w : ℕ) → meeting_numbers (Meeting.At a d w) ≡ contact_numbers t u (grown_of A r)
-      → (is_met A t u r ≡ true) × Met A t u r a d w
+  at-met : (r : List ℕ) (m : Meeting) → meeting_numbers (Some m) ≡ contact_numbers t u (grown_of A r)
+      → (is_met A t u r ≡ true) × Met A t u r m
   unfolding is_met
-  at-met r a d w e = go (apart (t ∷ u ∷ []) G) e
+  at-met r m e = go (apart (t ∷ u ∷ []) G) e
     where
       G : List Point
       G = grown_of A r
 
-      go : (x : Bool) → (pos 1 ∷ pos a ∷ pos d ∷ pos w ∷ []) ≡ cond x (pos 0 ∷ [])
-          (pos 1 ∷ (contact t u G).numerator ∷ (contact t u G).denominator ∷ pos (safe t u G) ∷ []) → (not x ≡ true) × Met A t u r a d w
+      go : (x : Bool) → (pos 1 ∷ pos m.numerator ∷ pos m.denominator ∷ pos m.safe ∷ []) ≡ cond x (pos 0 ∷ [])
+          (pos 1 ∷ (contact t u G).numerator ∷ (contact t u G).denominator ∷ pos (safe t u G) ∷ []) → (not x ≡ true) × Met A t u r m
       go true k = absurd (let z : ◌≡◌ {A = ℕ} 0 1 = cc k in let x : ⊥ = omega arith in x)
       go false k =
-          let n : pos a ≡ (contact t u G).numerator = cc k in
-          let m : pos d ≡ (contact t u G).denominator = cc k in
-          (refl, record { fraction-is = rw (n, m) refl; safe-is = cc k })
+          let n : pos m.numerator ≡ (contact t u G).numerator = cc k in
+          let d : pos m.denominator ≡ (contact t u G).denominator = cc k in
+          (refl, record { fraction-is = rw (n, d) refl; safe-is = cc k })
 
   -- ---- what is found
 
   module _ (all : List (List ℕ)) where
     -- records that are not met change nothing
-    still-same : (s : Soonest) (rs ss : List (List ℕ)) → ones rs ≡ ones ss → Still A t u all s rs → Still A t u all s ss
-    still-same Soonest.Never rs ss e x = x ∙ ap (soonest_numbers A t u) e
-    still-same (Soonest.At n a d w) rs ss e x = record {
+    still-same : (s : Option Drive) (rs ss : List (List ℕ)) → ones rs ≡ ones ss → Still A t u all s rs → Still A t u all s ss
+    still-same None rs ss e x = x ∙ ap (soonest_numbers A t u) e
+    still-same (Some s) rs ss e x = record {
       one = x.one;
       name-is = x.name-is;
       met = x.met;
@@ -86,26 +86,29 @@ module _ (A : List Point) (t u : Point) where
     }
 
     -- the test of the code is that of the records
-    tests : (x y : List ℕ) (a d v e g w : ℕ) → Met A t u x e g v → Met A t u y a d w → {c : Bool} → ltb (a * g) (e * d) ≡ c
-        → is_as_soon A t u x y ≡ not c
+    tests : (x y : List ℕ) (i j : Meeting) → Met A t u x i → Met A t u y j → {c : Bool}
+        → ltb (j.numerator * i.denominator) (i.numerator * j.denominator) ≡ c → is_as_soon A t u x y ≡ not c
     unfolding is_as_soon
-    tests x y a d v e g w m k {c} h =
+    tests x y i j m k {c} h =
         sym (ap₂ no_more m.fraction-is k.fraction-is) ∙ go c h
       where
-        go : (c : Bool) → ltb (a * g) (e * d) ≡ c → no_more (over (pos e) (pos g)) (over (pos a) (pos d)) ≡ not c
-        go true q = lt-le_z {x = pos (e * d)} {y = pos (a * g)} (lt_z-true {x = pos (a * g)} {y = pos (e * d)} q)
-        go false q = le-le_z {x = pos (e * d)} {y = pos (a * g)} (lt_z-false {x = pos (a * g)} {y = pos (e * d)} q)
+        go : (c : Bool) → ltb (j.numerator * i.denominator) (i.numerator * j.denominator) ≡ c
+            → no_more (over (pos i.numerator) (pos i.denominator)) (over (pos j.numerator) (pos j.denominator)) ≡ not c
+        go true q = lt-le_z {x = pos (i.numerator * j.denominator)} {y = pos (j.numerator * i.denominator)}
+            (lt_z-true {x = pos (j.numerator * i.denominator)} {y = pos (i.numerator * j.denominator)} q)
+        go false q = le-le_z {x = pos (i.numerator * j.denominator)} {y = pos (j.numerator * i.denominator)}
+            (lt_z-false {x = pos (j.numerator * i.denominator)} {y = pos (i.numerator * j.denominator)} q)
 
     module _ (rest : List (List ℕ)) (y : List ℕ) (n : ℕ) (named : name y ≡ n) where
-      met-kept : (a d w : ℕ) → is_met A t u y ≡ true → Met A t u y a d w → (s : Soonest) → Still A t u all s (y ∷ rest)
-          → Still A t u all (cond (is_sooner a d s && true) (Soonest.At n a d w) s) rest
-      met-kept a d w e m Soonest.Never x = record {
+      met-kept : (j : Meeting) → is_met A t u y ≡ true → Met A t u y j → (s : Option Drive) → Still A t u all s (y ∷ rest)
+          → Still A t u all (cond (is_sooner j s && true) (Some (soonest n j)) s) rest
+      met-kept j e m None x = record {
         one = y;
         name-is = named;
         met = m;
         still = x ∙ ap (soonest_numbers A t u) (ones_step y rest e);
       }
-      met-kept a d w e m (Soonest.At k i j v) x = go (ltb (a * j) (i * d)) refl
+      met-kept j e m (Some s) x = go (is_sooner j (Some s)) refl
         where
           -- of the two at the front one is left
           step : {c : Bool} → is_as_soon A t u x.one y ≡ c → soonest_numbers A t u (ones all)
@@ -115,46 +118,47 @@ module _ (A : List Point) (t u : Point) where
               ∙ ap (met_numbers A t u) (soonest-step A t u x.one y (ones rest))
               ∙ ap (λ (c : Bool). soonest_numbers A t u (cond c x.one y ∷ ones rest)) q
 
-          go : (c : Bool) → ltb (a * j) (i * d) ≡ c → Still A t u all (cond (c && true) (Soonest.At n a d w) (Soonest.At k i j v)) rest
+          go : (c : Bool) → is_sooner j (Some s) ≡ c → Still A t u all (cond (c && true) (Some (soonest n j)) (Some s)) rest
           go true q = record {
             one = y;
             name-is = named;
             met = m;
-            still = step (tests x.one y a d v i j w x.met m q);
+            still = step (tests x.one y s.meeting j x.met m q);
           }
           go false q = record {
             one = x.one;
             name-is = x.name-is;
             met = x.met;
-            still = step (tests x.one y a d v i j w x.met m q);
+            still = step (tests x.one y s.meeting j x.met m q);
           }
 
-      pub still_kept : (m : Meeting) (s : Soonest) → meeting_numbers m ≡ contact_numbers t u (grown_of A y) → Still A t u all s (y ∷ rest)
+      pub still_kept : (m : Option Meeting) (s : Option Drive) → meeting_numbers m ≡ contact_numbers t u (grown_of A y)
+          → Still A t u all s (y ∷ rest)
           → Still A t u all (kept_of true n m s) rest
-      still_kept Meeting.Never s e x = still-same s (y ∷ rest) rest (ones_step y rest (never_met y e)) x
-      still_kept (Meeting.At a d w) s e x = let k = at-met y a d w e in met-kept a d w k.0 k.1 s x
+      still_kept None s e x = still-same s (y ∷ rest) rest (ones_step y rest (never_met y e)) x
+      still_kept (Some m) s e x = let k = at-met y m e in met-kept m k.0 k.1 s x
 
-  still-end : (all : List (List ℕ)) (s : Soonest) → Still A t u all s [] → found_numbers s ≡ drive_numbers A t u all
-  still-end all Soonest.Never x = sym x
-  still-end all (Soonest.At n a d w) x =
-      ap₂ (λ (m v : ℕ). pos 1 ∷ pos m ∷ pos a ∷ pos d ∷ pos v ∷ []) (sym x.name-is) x.met.safe-is
+  still-end : (all : List (List ℕ)) (s : Option Drive) → Still A t u all s [] → found_numbers s ≡ drive_numbers A t u all
+  still-end all None x = sym x
+  still-end all (Some s) x =
+      ap₂ (λ (m v : ℕ). pos 1 ∷ pos m ∷ pos s.meeting.numerator ∷ pos s.meeting.denominator ∷ pos v ∷ []) (sym x.name-is) x.met.safe-is
       ∙ ap (λ (c : Fraction). pos 1 ∷ pos (name x.one) ∷ c.numerator ∷ c.denominator ∷ pos (safe t u (grown_of A x.one)) ∷ [])
       x.met.fraction-is
       ∙ sym x.still
 
 -- an older record of its name is passed over
-kept-older : (n : ℕ) (m : Meeting) (s : Soonest) → kept_of false n m s ≡ s
-kept-older n Meeting.Never s = refl
-kept-older n (Meeting.At a d w) s = go (is_sooner a d s)
+kept-older : (n : ℕ) (m : Option Meeting) (s : Option Drive) → kept_of false n m s ≡ s
+kept-older n None s = refl
+kept-older n (Some m) s = go (is_sooner m s)
   where
-    go : (x : Bool) → cond (x && false) (Soonest.At n a d w) s ≡ s
+    go : (x : Bool) → cond (x && false) (Some (soonest n m)) s ≡ s
     go true = refl
     go false = refl
 
 -- ---- at a place of a log
 
 module _ {A : List Point} {b : List ℕ} {f p : ℕ} (k : Walk A b f p) (sound : Sound b p) {h : Head} (st : Stated b p h) (t u : Point)
-    (s : Soonest) where
+    (s : Option Drive) where
   -- by whether the record is one of the floor's
   onward-off : is_on f b p ≡ false → Onward A t u f b p s s
   onward-off e all x = subst (Still A t u all s) (from_step f b p sound.here e) x
@@ -162,7 +166,7 @@ module _ {A : List Point} {b : List ℕ} {f p : ℕ} (k : Walk A b f p) (sound :
   pub onward-elsewhere : (h.floor ≡ f → ⊥) → Onward A t u f b p s s
   onward-elsewhere d = onward-off (sym (on-elsewhere st f d))
 
-  pub onward-kept : h.floor ≡ f → (m : Meeting) → MetAs t u (grown_of A (record_at b p)) m
+  pub onward-kept : h.floor ≡ f → (m : Option Meeting) → MetAs t u (grown_of A (record_at b p)) m
       → Onward A t u f b p s (kept_of (is_latest b p) (name (record_at b p)) m s)
   onward-kept e m met = go (is_latest b p) (sym (on-here st f e))
     where
@@ -173,15 +177,15 @@ module _ {A : List Point} {b : List ℕ} {f p : ℕ} (k : Walk A b f p) (sound :
 
 -- ---- the loop
 
-pub record Searched (A : List Point) (t u : Point) (f : ℕ) (b : List ℕ) (p : ℕ) (s : Soonest) : Type 0 where
+pub record Searched (A : List Point) (t u : Point) (f : ℕ) (b : List ℕ) (p : ℕ) (s : Option Drive) : Type 0 where
   pub walk : Walk A b f p
   pub still : Still A t u (from f b 0) s (from f b p)
 
-pub searched-start : (A : List Point) (t u : Point) (f : ℕ) (b : List ℕ) → Walk A b f 0 → Searched A t u f b 0 Soonest.Never
+pub searched-start : (A : List Point) (t u : Point) (f : ℕ) (b : List ℕ) → Walk A b f 0 → Searched A t u f b 0 None
 searched-start A t u f b w = record { walk = w; still = refl }
 
-module _ {A : List Point} {t u : Point} {f : ℕ} {b : List ℕ} {p : ℕ} {s : Soonest} (x : Searched A t u f b p s) where
-  pub searched-next : whole (drop p b) ≡ true → {r : Soonest} → Onward A t u f b p s r → Searched A t u f b (next_at b p) r
+module _ {A : List Point} {t u : Point} {f : ℕ} {b : List ℕ} {p : ℕ} {s : Option Drive} (x : Searched A t u f b p s) where
+  pub searched-next : whole (drop p b) ≡ true → {r : Option Drive} → Onward A t u f b p s r → Searched A t u f b (next_at b p) r
   searched-next w on = record { walk = walk-next A x.walk w; still = on (from f b 0) x.still }
 
   pub searched-end : whole (drop p b) ≡ false → found_numbers s ≡ drive_numbers A t u (on_floor f b)

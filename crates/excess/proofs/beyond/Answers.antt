@@ -8,7 +8,8 @@ use Rattle.plane.specs.Point.{Point, points, corner}
 use Rattle.plane.specs.Separation.{inside, apart}
 use Rattle.plane.specs.Clearance.{nearest}
 use Rattle.polygon.specs.Point.{at}
-use Rattle.clearance.specs.declared.Spacing.{Spacing}
+use Rattle.std.specs.Prelude.{Option}
+use Rattle.clearance.specs.declared.measured.Distance.{Distance}
 use Rattle.clearance.specs.Answer.{Spaced}
 use Rattle.excess.specs.Answer.{up_numbers}
 use Rattle.excess.specs.Excess.{outermost, corner_numbers, excess_numbers}
@@ -53,7 +54,7 @@ spacing-requires c = (
 )
 
 -- what is known of its spacing, where it is told
-known : (c : After-spacing) {s : Spacing} → c.spacing.result ≡ s → let args = c.args in
+known : (c : After-spacing) {s : Option Distance} → c.spacing.result ≡ s → let args = c.args in
     let N = points args.new.now in
     let O = points args.old.now in
     Spaced (corner N (outermost N O) ∷ []) O s
@@ -63,18 +64,19 @@ known c {s} e = let O = points c.args.old.now in
 
 pub rounded-requires : goal.rounded-requires
 rounded-requires c =
-    found-rounded (point-found _ _ c.requires.1.shape (clear (goal.at.rounded-requires c).After-corner_at)
-    c.in-Apart.found (known (goal.at.rounded-requires c).After-spacing c.in-Apart.is).1)
+    let w = goal.at.rounded-requires c in
+    found-rounded (point-found _ _ c.requires.1.shape (clear w.After-corner_at) c.in_ok-found.found
+    (known w.After-spacing c.in_ok-found.was).1)
 
-pub returns-in-Meets : goal.returns-in-Meets
-returns-in-Meets c =
-    absurd (true≢false (sym (clear (goal.at.returns-in-Meets c).After-corner_at) ∙ known (goal.at.returns-in-Meets c).After-spacing
-    c.in-Meets.is))
+pub returns-in_err-found : goal.returns-in_err-found
+returns-in_err-found c =
+    let w = goal.at.returns-in_err-found c in
+    absurd (true≢false (sym (clear w.After-corner_at) ∙ known w.After-spacing c.in_err-found.was))
 
-pub returns-in-Apart : goal.returns-in-Apart
-returns-in-Apart c =
-    c.rounded.ensures ∙ ap (λ (k : ℕ). up_numbers k c.in-Apart.found) c.outermost-corner.ensures
-    ∙ found_up (points c.args.new.now) _ c.requires.1.shape
-    (clear (goal.at.returns-in-Apart c).After-corner_at) c.in-Apart.found
-    (known (goal.at.returns-in-Apart c).After-spacing c.in-Apart.is).1
+pub returns : goal.returns
+returns c =
+    let w = goal.at.returns c in
+    c.rounded.ensures ∙ ap (λ (k : ℕ). up_numbers k c.in_ok-found.found) c.outermost-corner.ensures
+    ∙ found_up (points c.args.new.now) _ c.requires.1.shape (clear w.After-corner_at) c.in_ok-found.found
+    (known w.After-spacing c.in_ok-found.was).1
     ∙ told _ _ (sym c.inside.ensures ∙ c.if-inside.false)

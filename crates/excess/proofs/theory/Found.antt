@@ -6,7 +6,7 @@
 --     found-far, none-far      its fraction is the distance; 0 if p is not apart from O
 --     far-further, far-no-further     fractions compare as distances do
 --     found_up           with its millimetres rounded up it is what is answered of the outermost corner
-use Rattle.std.specs.Prelude.{◌≡◌, refl, true, false, List, [], ◌∷◌, ℕ, zero, suc, ◌*◌, ◌<◌, ◌≤◌, ltb, ℤ, ◌*ℤ◌, length, get_or}
+use Rattle.std.specs.Prelude.{◌≡◌, refl, true, false, List, [], ◌∷◌, ℕ, zero, suc, ◌*◌, ◌<◌, ◌≤◌, ℤ, ◌*ℤ◌, length, get_or}
 use Rattle.std.specs.Prelude.{◌≤ℤ◌, ◌<ℤ◌}
 use Rattle.std.proofs.Math.Path.{sym, ap, ap₂}
 use Rattle.std.proofs.Common.{◌∙◌, subst, mul-one, arith, lt-ltb, lit≤}
@@ -29,7 +29,7 @@ use Rattle.clearance.specs.declared.measured.Distance.{Distance}
 use Rattle.clearance.specs.theory.Nearest.{nearest-is-whole}
 use Rattle.growth.proofs.theory.Places.{point-shape}
 use Rattle.excess.specs.Excess.{beyond, no_nearer, outermost, excess, root_above, up, corner_numbers}
-use Rattle.excess.specs.Answer.{far_of, HasFar, RoundedDown, up_numbers}
+use Rattle.excess.specs.Answer.{far_of, HasFar, is_further, RoundedDown, up_numbers}
 use Rattle.excess.specs.declared.outermost.Far.{Far}
 use Rattle.excess.proofs.theory.Beyond.{beyond-whole, beyond-none, beyond-apart, beyond-positive}
 use Rattle.excess.proofs.theory.Outermost.{le-no_nearer, lt-nearer}
@@ -122,7 +122,7 @@ module _ (N O : List Point) (s : IsShape O) (i : ℕ) where
         subst (HasFar N O i) (sym is) (by-found (point-found (corner N i) O s here d
         (e ∙ ap (λ x. numbers_of (x ∷ []) O (nearest (x ∷ []) O)) at)) (beyond-apart (corner N i) O s here))
 
-    pub none-far : apart (p ∷ []) O ≡ false → HasFar N O i (record { corner = i; turn = 0; squared = 1 })
+    pub none-far : apart (p ∷ []) O ≡ false → HasFar N O i (record { corner = i; ratio = record { turn = 0; squared = 1 } })
     none-far h = record {
       corner-is = refl;
       whole = omega arith;
@@ -150,20 +150,24 @@ module _ (T q U r : ℤ) (f g : Fraction) (f-whole : pos 0 <ℤ f.denominator) (
       (search linear depth 40) (omega arith))
 
 module _ (N O : List Point) (s : IsShape O) {i j : ℕ} {a b : Far} (f : HasFar N O i a) (g : HasFar N O j b) where
-  whole : {k : ℕ} {r : Far} → HasFar N O k r → pos 0 <ℤ pos r.squared
-  whole {k} {r} h = lt_z-true {x = pos 0} {y = pos r.squared} (lt-ltb 0 r.squared h.whole)
+  whole : {k : ℕ} {r : Far} → HasFar N O k r → pos 0 <ℤ pos r.ratio.squared
+  whole {k} {r} h = lt_z-true {x = pos 0} {y = pos r.ratio.squared} (lt-ltb 0 r.ratio.squared h.whole)
 
-  pub far-further : ltb (a.turn * a.turn * b.squared) (b.turn * b.turn * a.squared) ≡ true → no_nearer N O i j ≡ false
-  far-further h = lt-nearer N O i j (fraction-lt (pos (a.turn * a.turn)) (pos a.squared) (pos (b.turn * b.turn)) (pos b.squared)
+  pub far-further : is_further a b ≡ true → no_nearer N O i j ≡ false
+  far-further h =
+      let p = a.ratio in
+      let q = b.ratio in
+      lt-nearer N O i j (fraction-lt (pos (p.turn * p.turn)) (pos p.squared) (pos (q.turn * q.turn)) (pos q.squared)
       (beyond (corner N i) O) (beyond (corner N j) O) (beyond-whole (corner N i) O s) (beyond-whole (corner N j) O s) (whole f) (whole g)
-      f.as-far g.as-far
-      (lt_z-true {x = pos (a.turn * a.turn * b.squared)} {y = pos (b.turn * b.turn * a.squared)} h))
+      f.as-far g.as-far (lt_z-true {x = pos (p.turn * p.turn * q.squared)} {y = pos (q.turn * q.turn * p.squared)} h))
 
-  pub far-no-further : ltb (a.turn * a.turn * b.squared) (b.turn * b.turn * a.squared) ≡ false → no_nearer N O i j ≡ true
-  far-no-further h = le-no_nearer N O i j (fraction-le (pos (b.turn * b.turn)) (pos b.squared) (pos (a.turn * a.turn))
-      (pos a.squared) (beyond (corner N j) O) (beyond (corner N i) O) (beyond-whole (corner N j) O s) (beyond-whole (corner N i) O s)
-      (whole g) (whole f) g.as-far f.as-far
-      (lt_z-false {x = pos (a.turn * a.turn * b.squared)} {y = pos (b.turn * b.turn * a.squared)} h))
+  pub far-no-further : is_further a b ≡ false → no_nearer N O i j ≡ true
+  far-no-further h =
+      let p = a.ratio in
+      let q = b.ratio in
+      le-no_nearer N O i j (fraction-le (pos (q.turn * q.turn)) (pos q.squared) (pos (p.turn * p.turn)) (pos p.squared)
+      (beyond (corner N j) O) (beyond (corner N i) O) (beyond-whole (corner N j) O s) (beyond-whole (corner N i) O s) (whole g) (whole f)
+      g.as-far f.as-far (lt_z-false {x = pos (p.turn * p.turn * q.squared)} {y = pos (q.turn * q.turn * p.squared)} h))
 
 -- ---- rounded up
 

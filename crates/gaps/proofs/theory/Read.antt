@@ -1,11 +1,11 @@
 -- The records of a floor, as the code reads them.
 --     on-elsewhere, on-here      whether the record at a place is one of the floor's, by its head
 --     stated-few                 its numbers fit a buffer for any shape
---     read-list, read_length     and are at its front once they are read
+--     read-list                  and are at its front once they are read
 --     grown_of-shape, grown_of-valid, grown_of-few      the grown shape is one; if 6 and 7 pass, it fits such a buffer
 --     pair-gap, found_of         the gap of a pair is a fraction, and what was measured is it
 --     left_out                   boxes show that it is not nearer than what is kept
-use Rattle.std.specs.Prelude.{◌≡◌, Bool, ◌&&◌, ℕ, ◌*◌, ◌<◌, ◌≤◌, ℤ, length, take, drop}
+use Rattle.std.specs.Prelude.{◌≡◌, Bool, ◌&&◌, ℕ, ◌*◌, ◌<◌, ◌≤◌, ℤ, length, take, drop, Option}
 use Rattle.std.proofs.Math.Path.{refl, sym, ap₂}
 use Rattle.std.proofs.Common.{◌∙◌, ap, subst, arith, eq-eqb, ne_eqb}
 use Rattle.std.proofs.Math.Bool.{true, false, not}
@@ -16,18 +16,18 @@ use Rattle.plane.specs.Point.{Point, points, numbers}
 use Rattle.plane.specs.Shape.{IsShape}
 use Rattle.plane.specs.Refusal.{Valid}
 use Rattle.plane.specs.Output.{overwritten}
-use Rattle.plane.proofs.theory.lists.Flat.{points-length, points-numbers, numbers-length}
+use Rattle.plane.proofs.theory.lists.Flat.{points-length, points-numbers}
 use Rattle.polygon.specs.declared.extent.Extent.{Extent}
 use Rattle.polygon.specs.Extent.{Extends}
 use Rattle.extents.specs.Far.{Spans, Reaches}
 use Rattle.extents.specs.theory.Gaps.{grown-spans}
 use Rattle.endian.specs.Bytes.{words_at}
 use Rattle.endian.specs.theory.Bytes.{words_at-length}
-use Rattle.endian.specs.theory.Coded.{front-is, front_length}
+use Rattle.endian.specs.theory.Coded.{front-is}
 use Rattle.plane.specs.Clearance.{clearance_numbers}
 use Rattle.clearance.specs.theory.Distance.{distance-whole}
 use Rattle.neighbours.specs.Spacing.{spacing_numbers}
-use Rattle.neighbours.specs.declared.spacing.Spacing.{Spacing}
+use Rattle.clearance.specs.declared.measured.Distance.{Distance}
 use Rattle.neighbours.specs.theory.Spacings.{spacing-fraction, spacing-sized}
 use Rattle.growth.proofs.theory.Places.{grown-shape}
 use Rattle.passage.proofs.theory.Found.{grown-valid}
@@ -89,17 +89,6 @@ module _ {b : List ℕ} {p : ℕ} {h : Head} (k : Sound b p) (s : Stated b p h) 
     pub read-list : take h.count out ≡ list (record_at b p)
     read-list = front-is (words_at h.count b h.place) old out e h.count (words_at-length b h.count h.place) ∙ sym s.list-is
 
-    pub read_length : length out ≡ 2 * max_corners
-    read_length = front_length (words_at h.count b h.place) old out e
-        (omega (arith, words_at-length b h.count h.place, stated-few, room)) ∙ room
-
-    pub read_count : h.count ≡ length (list (record_at b p))
-    read_count = sym count-is
-
-pub written-length : (ps : List Point) (old out : List ℤ) → out ≡ overwritten (numbers ps) old → 2 * length ps ≤ length old
-    → length out ≡ length old
-written-length ps old out e h = front_length (numbers ps) old out e (omega (arith, numbers-length ps, h))
-
 -- ---- the grown shape
 
 module _ (A : List Point) (r : List ℕ) (v : Valid (list r)) (a : 0 < length A) where
@@ -139,7 +128,7 @@ module _ (A : List Point) (b : List ℕ) (p q : ℕ) (a : 0 < length A) (k : Sou
   unfolding gap_of
   pair-gap = distance-whole G H first-shape second-shape
 
-  pub found_of : (w : Spacing) → spacing_numbers w ≡ clearance_numbers G H → Found A b p q w
+  pub found_of : (w : Option Distance) → spacing_numbers w ≡ clearance_numbers G H → Found A b p q w
   unfolding gap_of
   found_of w e = record {
     first-sound = k;
@@ -151,7 +140,7 @@ module _ (A : List Point) (b : List ℕ) (p q : ℕ) (a : 0 < length A) (k : Sou
   }
 
   -- the box about G and the cart, and that about the record, show that the pair is not nearer than what is kept
-  pub left_out : (f : ℕ) {e : Extent} (s : Best) {g : List Point} → g ≡ G → Reaches g A e → LeftOut f b q e s → is_on f b q ≡ true
+  pub left_out : (f : ℕ) {e : Extent} (s : Option Best) {g : List Point} → g ≡ G → Reaches g A e → LeftOut f b q e s → is_on f b q ≡ true
       → is_nearer (gap_of A (pair_at b p q)) s ≡ false
   unfolding gap_of
   left_out f {e} s {g} same x far on = far on A G a first-shape (subst (λ (ps : List Point). Reaches ps A e) same x)

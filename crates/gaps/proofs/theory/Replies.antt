@@ -3,7 +3,7 @@
 --     gap-refused, gap-damaged, gap-few, gap-large     1 to 5 of the cart, 15, 20, and 6 or 7 of a grown shape
 --     gap-found                                        else the narrowest gap; `some_pair`: two shapes have one
 --     gap-answers, answers-gap                         it is answered exactly if none of these rows applies
-use Rattle.std.specs.Prelude.{◌≡◌, false, List, [], ◌∷◌, ◌++◌, ℕ, ◌≤◌, ◌<◌, ℤ, pos, length}
+use Rattle.std.specs.Prelude.{◌≡◌, false, List, [], ◌∷◌, ◌++◌, ℕ, ◌≤◌, ◌<◌, ℤ, pos, length, Err}
 use Rattle.std.proofs.Common.{sym, ap, arith, lt-ltb, le-ltb}
 use Rattle.plane.specs.Point.{Point}
 use Rattle.plane.specs.Reply.{Reply, Row, answered, refused, here, later, NoneApply}
@@ -17,14 +17,14 @@ use Rattle.journal.specs.Format.{records}
 use Rattle.journal.specs.Reading.{damaged, damage_row}
 use Rattle.journal.specs.Current.{too_few_row}
 use Rattle.journal.specs.Survey.{surveyed}
-use Rattle.journal.specs.declared.survey.Surveyed.TheVariants as Surveyed
+use Rattle.journal.specs.declared.survey.Damaged.{Damaged}
 use Rattle.journal.proofs.theory.Survey.{surveyed-bad}
 use Rattle.gaps.specs.Gap.{on_floor, size_rows_of, gap_numbers, ask_gap}
 
 -- where the survey stops is what 15 carries
-pub damage-refuses : (b : List ℕ) (p : ℕ) (rows : List Row) → surveyed b ≡ Surveyed.Bad p
-    → Refuses (damage_row b ∷ rows) (refused 15 (p ∷ []))
-damage-refuses b p rows h = let s = surveyed-bad b p h in
+pub damage-refuses : (b : List ℕ) (d : Damaged) (rows : List Row) → surveyed b ≡ Err d
+    → Refuses (damage_row b ∷ rows) (refused 15 (d.place ∷ []))
+damage-refuses b d rows h = let s = surveyed-bad b d h in
     record { by = _; first = here s.0; is = ap (λ (k : ℕ). refused 15 (k ∷ [])) (sym s.1) }
 
 -- two shapes make a pair
@@ -44,8 +44,8 @@ module _ (b : List ℕ) (cart : Floored) where
   gap-refused x = (shapes-refused q x).0
 
   module _ (v : Valid cart.list) where
-    pub gap-damaged : (p : ℕ) → surveyed b ≡ Surveyed.Bad p → refused 15 (p ∷ []) ≡ reply q
-    gap-damaged p h = (rest-refused q v (damage-refuses b p _ h)).0
+    pub gap-damaged : (d : Damaged) → surveyed b ≡ Err d → refused 15 (d.place ∷ []) ≡ reply q
+    gap-damaged d h = (rest-refused q v (damage-refuses b d _ h)).0
 
     module _ (sound : damaged (records b) ≡ false) where
       pub gap-few : length rs < 2 → refused 20 [] ≡ reply q

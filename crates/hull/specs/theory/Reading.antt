@@ -4,18 +4,41 @@
 --     left-few, line-to        how many are to come; a part of a line
 --     reading-start            before the first corner
 --     reading-room, reading-more, reading-less      one step: there is room for the corner, and less is left
+--     sign-less, sign-equal, sign-greater      what an order says of the sign
 --     stepped-first, stepped-second     what the step does, by the code's order of the two corners
 --     first_rest, second-rest      one row is spent: the rest of the other is in order already
-use Rattle.std.specs.Prelude.{◌≡◌, refl, Bool, true, false, cond, List, [], ◌∷◌, ℕ, ◌+◌, ◌-◌, ◌≤◌, ◌<◌, ℤ, pos, length}
-use Rattle.std.proofs.Common.{sym, ◌∙◌, ap, subst, arith}
+use Rattle.std.specs.Prelude.{◌≡◌, refl, Bool, true, false, cond, List, [], ◌∷◌, ℕ, zero, suc, ◌+◌, ◌-◌, ◌≤◌, ◌<◌, ℤ, pos, negsuc, length}
+use Rattle.std.specs.declared.cmp.Ordering.TheVariants.{Less, Equal, Greater}
+use Rattle.hull.specs.Chain.{ordering_of}
+use Rattle.std.proofs.Common.{sym, ◌∙◌, ap, subst, arith, lt→ltb}
 use Rattle.std.specs.Int.Signed.{le_z}
-use Rattle.integer.specs.Order.{weaken, le_z-false, le-le_z}
+use Rattle.integer.specs.Order.{weaken, le_z-false, le-le_z, lt-le_z}
 use Rattle.plane.specs.Point.{Point, points, corner}
 use Rattle.sorting.specs.Order.{order, in_order, run, left_over, Line, Rises}
 use Rattle.sorting.specs.Buffer.{SmallTo, Scanned, Stepped}
 use Rattle.sorting.specs.theory.Least.{in_order-length}
 use Rattle.hull.specs.theory.Unite.{left_over-length, first-left, second-left, Read, read_as, rows_step}
 use Rattle.hull.specs.theory.Stack.{Scanning, scanning-start, scanning-as, scanning-room, scanning-one}
+
+pub sign-less : (z : ℤ) → Less ≡ ordering_of z → (le_z z (pos 0) ≡ true) × (le_z (pos 0) z ≡ false)
+sign-less (negsuc n) e = (refl, refl)
+sign-less (pos zero) e = cc
+sign-less (pos (suc n)) e = cc
+
+pub sign-equal : (z : ℤ) → Equal ≡ ordering_of z → (le_z z (pos 0) ≡ true) × (le_z (pos 0) z ≡ true)
+sign-equal (negsuc n) e = cc
+sign-equal (pos zero) e = (refl, refl)
+sign-equal (pos (suc n)) e = cc
+
+pub sign-greater : (z : ℤ) → Greater ≡ ordering_of z → le_z z (pos 0) ≡ false
+sign-greater (negsuc n) e = cc
+sign-greater (pos zero) e = cc
+sign-greater (pos (suc n)) e = lt-le_z {x = pos (suc n)} {y = pos 0} (record { lt = lt→ltb 0 (suc n) (omega arith) })
+
+pub sign-other : (z : ℤ) → (ordering_of z ≡ Greater → ⊥) → le_z z (pos 0) ≡ true
+sign-other (negsuc n) f = refl
+sign-other (pos zero) f = refl
+sign-other (pos (suc n)) f = absurd (f refl)
 
 -- a part of a line
 pub line-to : {l : List ℤ} {e d : ℕ} → Line l e → d ≤ e → Line l d

@@ -1,9 +1,11 @@
 -- The kind of a record, and what it says of the record's length.
+--     known-kind, kind-some                which numbers stand for a kind
+--     plain-bytes                          how many bytes a record of kind 1 has besides its corners
 --     fixed-least, fixed-most              how many bytes a record has besides its corners
 --     floored-if, plain-if, fixed-floored  which tells the kind
 --     judged-valid, valid-judged           judging answers exactly if the list is a shape
 --     good→facts, facts→good               what a record is that is not bad
-use Rattle.std.specs.Prelude.{◌≡◌, Bool, ◌||◌, ◌⊎◌, List, ℕ, ◌-◌, ◌/◌, ◌%◌, ◌≤◌, ◌<◌, eqb, ltb, ℤ}
+use Rattle.std.specs.Prelude.{◌≡◌, Option, None, Some, IsSome, MatchOption, Bool, ◌||◌, ◌⊎◌, List, ℕ, ◌-◌, ◌/◌, ◌%◌, ◌≤◌, ◌<◌, eqb, ltb, ℤ}
 use Rattle.std.proofs.Math.Path.{refl, ap, ap₂}
 use Rattle.std.proofs.Common.{sym, ◌∙◌, true≢false, inl, inr}
 use Rattle.std.proofs.Math.Bool.{true, false, not, cond}
@@ -16,9 +18,28 @@ use Rattle.plane.specs.Question.{ask_judge}
 use Rattle.plane.proofs.theory.refusals.Asked.{asked-shapes, asked-none, rest-none}
 use Rattle.plane.proofs.theory.lists.Sought.{either-false}
 use Rattle.journal.specs.Format.{fixed_bytes, size, kind, list, judged, is_answer, wrong_length, other_kind, bad}
+use Rattle.journal.specs.Kind.{number}
 use Rattle.journal.specs.Facts.{Good}
+use Rattle.journal.specs.declared.kind.Kind.{Kind}
+use Rattle.journal.specs.declared.kind.Kind.TheVariants.{Plain, Floored}
+
+-- ---- the kinds
+
+pub known-kind : (k : Kind) → other_kind (number k) ≡ false
+unfolding other_kind
+known-kind Plain = refl
+known-kind Floored = refl
+
+-- a number that a record may have stands for a kind
+pub kind-some : (n : ℕ) (o : Option Kind) → MatchOption o (other_kind n ≡ true) (λ k. n ≡ number k) → other_kind n ≡ false → IsSome o
+kind-some n None h known = absurd (true≢false (sym h ∙ known))
+kind-some n (Some k) h known = refl
 
 -- ---- the bytes besides the corners
+
+pub plain-bytes : fixed_bytes 1 ≡ 5
+unfolding fixed_bytes
+plain-bytes = refl
 
 module _ (k : ℕ) where
   pub fixed-least : 5 ≤ fixed_bytes k
@@ -80,7 +101,7 @@ one-or-two k h = go (eqb k 1) refl (not-false _ h)
     go true e g = inl (eqb-true k 1 e)
     go false e g = inr (eqb-true k 2 g)
 
-no_other : (k : ℕ) → (k ≡ 1) ⊎ (k ≡ 2) → other_kind k ≡ false
+pub no_other : (k : ℕ) → (k ≡ 1) ⊎ (k ≡ 2) → other_kind k ≡ false
 unfolding other_kind
 no_other k (inl e) = ap (λ (i : ℕ). not (eqb i 1 || eqb i 2)) e
 no_other k (inr e) = ap (λ (i : ℕ). not (eqb i 1 || eqb i 2)) e

@@ -1,4 +1,4 @@
--- A loop over the records of a log, from a place p on: `while whole_at(log, p) { .. p = next_at(log, p); }`. Its invariant says
+-- A loop over the records of a log, from a place on: `for p in places::all(log) { .. }`, as `Walk.antt` has it. Its invariant says
 -- that p is reached (`Reached` of `Survey.antt`), and an equation about what is still to come, `records (drop p b)`.
 --     reached-start, reached-sound, reached-next    the loop begins; a record is here; it goes on
 --     records-step, records-end    how `records (drop p b)` goes on, and ends
@@ -6,20 +6,20 @@
 --     here-valid                its numbers are a shape's
 --     name-inside, name-here    it has a name, which is inside the log
 --     legible, stated           it can be read, and what its head says
-use Rattle.std.specs.Prelude.{◌≡◌, true, false, List, [], ◌∷◌, ℕ, ◌+◌, ◌-◌, ◌/◌, ◌%◌, ◌≤◌, ◌<◌, length, drop}
+use Rattle.std.specs.Prelude.{◌≡◌, true, false, ◌⊎◌, List, [], ◌∷◌, ℕ, ◌+◌, ◌-◌, ◌/◌, ◌%◌, ◌≤◌, ◌<◌, length, drop}
 use Rattle.std.proofs.Math.Path.{sym, ap, ap₂}
-use Rattle.std.proofs.Common.{◌∙◌, arith, drop-drop}
+use Rattle.std.proofs.Common.{◌∙◌, arith, subst, drop-drop}
 use Rattle.plane.specs.Floor.{Floored}
 use Rattle.plane.specs.Refusal.{Valid}
 use Rattle.plane.proofs.theory.lists.Sought.{either-false}
 use Rattle.endian.specs.Bytes.{words_at}
 use Rattle.endian.specs.theory.Bytes.{words_at-drop}
-use Rattle.journal.specs.Format.{fixed_bytes, size, whole, records, kind, name, floor, list, bad}
+use Rattle.journal.specs.Format.{fixed_bytes, size, whole, records, kind, name, floor, list, other_kind, bad}
 use Rattle.journal.specs.Reading.{damaged}
 use Rattle.journal.specs.Survey.{Legible, record_at, next_at, Sound, Reached, Stated}
 use Rattle.journal.specs.declared.head.Head.{Head}
 use Rattle.journal.proofs.theory.Records.{records-none, records-front}
-use Rattle.journal.proofs.theory.Kind.{fixed-least, good→facts}
+use Rattle.journal.proofs.theory.Kind.{fixed-least, no_other, good→facts}
 use Rattle.journal.proofs.theory.Survey.{next-inside, eighth}
 use Rattle.journal.proofs.theory.Read.{size-front, kind-front, name-front, content-front}
 
@@ -69,6 +69,11 @@ module _ {b : List ℕ} {p : ℕ} (s : Sound b p) where
 
   pub legible : Legible b p
   legible = record { inside = next-inside b p s.here; long = length-good.1 }
+
+  pub kind-good : other_kind (kind at) ≡ false
+  kind-good =
+      no_other (kind at) (subst (λ (k : ℕ). (k ≡ 1) ⊎ (k ≡ 2)) (kind-front at length-good.0)
+      (good→facts (record_at b p) here-good).kind-is)
 
   -- its name and kind are inside
   pub legible-least : 5 ≤ size at

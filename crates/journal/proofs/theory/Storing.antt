@@ -4,19 +4,22 @@
 --     ran-kept, ran-cleared               a byte that is 0, and one that is cleared
 --     ran-blank                           nothing is cleared where all bytes are 0
 --     Cleared, cleared-start, -next       the bytes from a place on are cleared; one byte more
---     ran-pair, ran-word                  numbers of two and of four bytes
+--     ran-byte-more                       one byte more
+--     ran-pair, -pair-bytes, -word-bytes  numbers of two and of four bytes
 --     ran-start, ran-more                 a list of numbers; one more
 --     ran-recorded                        a record, field by field, and whether its last byte was stored
 --     ran-stores                          all stores of an addition, and whether they were made
 use Rattle.std.specs.Prelude.{◌≡◌, refl, Bool, true, false, cond, List, [], ◌∷◌, ◌++◌, ℕ, zero, suc, ◌+◌, ◌*◌, ◌-◌, ◌/◌, ◌%◌, ◌≤◌, ◌<◌, eqb}
 use Rattle.std.specs.Prelude.{leb, ltb, ℤ, pos, length, get_or, take, drop, set}
 use Rattle.std.proofs.Common.{sym, ◌∙◌, ap, ap₂, subst, not-suc-le-zero, arith, leb-true, leb-false, le-leb, eq-eqb, ne_eqb, length-append}
-use Rattle.std.proofs.Common.{length-drop, length-set, take-take, length-take-le, get_or-take, get_or-drop, drop-cons, of_z}
+use Rattle.std.proofs.Common.{length-drop, length-set, take-take, length-take-le, get_or-take, get_or-drop, drop-cons, SFits, of_z}
 use Rattle.std.proofs.lemmas.Bool.{lt-leb}
-use Rattle.std.proofs.Math.Seq.{take-nil, drop-length}
+use Rattle.std.proofs.Math.Facts.{Fits-of_z, Fits-lt-pow}
+use Rattle.std.proofs.Math.Seq.{take-nil, take-suc, drop-length}
 use Rattle.std.proofs.lemmas.List.{take-set-le}
-use Rattle.std.specs.Int.{w32}
+use Rattle.std.specs.Int.{w16, w32, to_le_bytes}
 use Rattle.endian.specs.Bytes.{pair, word, words}
+use Rattle.endian.specs.theory.Coded.{word-bytes}
 use Rattle.endian.specs.theory.Bytes.{pair-length, words-length, words_more}
 use Rattle.journal.specs.Format.{last_byte, fixed_bytes, recorded_as, recorded}
 use Rattle.journal.specs.Adding.{Store, store, end, clears, writes, stores, made}
@@ -135,17 +138,27 @@ cleared-next {k} {m} {n} {b} {c} {d} q f g = record {
 
 -- ---- numbers written
 
+pub ran-byte-more : {k m o : ℕ} {b c d : List ℕ} (p i : ℕ) (l : List ℕ) → i < length l → Ran k (writes p (take i l)) b m c
+    → Ran m (writes (p + i) (get_or l i 0 ∷ [])) c o d → Ran k (writes p (take (i + 1) l)) b o d
+ran-byte-more {k} {m} {o} {b} {c} {d} p i l h f g =
+    let next : suc i ≡ i + 1 = omega arith in
+    subst (λ (t : List ℕ). Ran k (writes p t) b o d) (sym (take-suc l i 0 h) ∙ ap (λ (j : ℕ). take j l) next)
+    (ran-writes p (p + i) (take i l) (get_or l i 0 ∷ []) f (omega (arith, length-take-le i l (omega arith))) g)
+
+pub ran-pair-bytes : {k m : ℕ} {b c : List ℕ} (p n : ℕ) → Ran k (writes p (to_le_bytes w16 n)) b m c → Ran k (writes p (pair n)) b m c
+unfolding pair
+ran-pair-bytes p n f = f
+
 pub ran-pair : {k m o : ℕ} {b c d : List ℕ} (p n : ℕ) → Ran k (writes p (n % 256 ∷ [])) b m c
     → Ran m (writes (p + 1) (n / 256 % 256 ∷ [])) c o d → Ran k (writes p (pair n)) b o d
 unfolding pair
 ran-pair p n f g = ran-writes p (p + 1) (n % 256 ∷ []) (n / 256 % 256 ∷ []) f refl g
 
-pub ran-word : {k m o n : ℕ} {b c d : List ℕ} (p : ℕ) (z : ℤ) → n ≡ of_z w32 z → Ran k (writes p (pair (n % 65536))) b m c
-    → Ran m (writes (p + 2) (pair (n / 65536))) c o d → Ran k (writes p (word z)) b o d
+pub ran-word-bytes : {k m : ℕ} {b c : List ℕ} (p : ℕ) (z : ℤ) → SFits w32 z → Ran k (writes p (to_le_bytes w32 (of_z w32 z))) b m c
+    → Ran k (writes p (word z)) b m c
 unfolding word
-ran-word {k} {m} {o} {n} {b} {c} {d} p z e f g =
-    subst (λ (x : ℕ). Ran k (writes p (pair (x % 65536) ++ pair (x / 65536))) b o d) e
-    (ran-writes p (p + 2) (pair (n % 65536)) (pair (n / 65536)) f (omega (arith, pair-length (n % 65536))) g)
+ran-word-bytes {k} {m} {b} {c} p z f =
+    subst (λ (t : List ℕ). Ran k (writes p t) b m c) (word-bytes (of_z w32 z) (Fits-lt-pow (Fits-of_z f)))
 
 pub ran-start : (k p : ℕ) (b : List ℕ) → Ran k (writes p (words [])) b k b
 unfolding words

@@ -7,7 +7,7 @@
 --     surveyed-bad, surveyed-ends                     read off the result
 use Rattle.std.proofs.Math.Path.{◌≡◌, refl, sym, ap, ap₂}
 use Rattle.std.proofs.Common.{◌∙◌, le-leb, lt-ltb, le-ltb, eq-eqb, ne_eqb, length-drop, drop-drop, length-take-le}
-use Rattle.std.specs.Prelude.{Bool, ◌&&◌, ◌||◌, ℕ, ◌+◌, ◌-◌, ◌/◌, ◌%◌, ◌≤◌, ◌<◌, length, get_or, take, drop, ℤ}
+use Rattle.std.specs.Prelude.{Bool, Result, Ok, Err, ◌&&◌, ◌||◌, ℕ, ◌+◌, ◌-◌, ◌/◌, ◌%◌, ◌≤◌, ◌<◌, length, get_or, take, drop, ℤ}
 use Rattle.std.proofs.Math.Bool.{true, false, not, cond, or-true}
 use mathlib.Core.List.{List}
 use native.Mathlib.Omega.{arith}
@@ -20,8 +20,8 @@ use Rattle.journal.specs.Format.{judged, other_kind, bad}
 use Rattle.journal.specs.Reading.{damaged, bad_place}
 use Rattle.journal.specs.Adding.{end}
 use Rattle.journal.specs.Facts.{Whole}
-use Rattle.journal.specs.Survey.{surveyed}
-use Rattle.journal.specs.declared.survey.Surveyed.{Surveyed}
+use Rattle.journal.specs.Survey.{damaged_at, surveyed}
+use Rattle.journal.specs.declared.survey.Damaged.{Damaged}
 use Rattle.journal.proofs.theory.Kind.{fixed-least}
 use Rattle.journal.proofs.theory.Records.{whole→facts, records-none, records-front, end_none, end-front}
 use Rattle.journal.proofs.theory.Read.{size-front, kind-front, content-front}
@@ -154,7 +154,7 @@ module _ {b : List ℕ} {p : ℕ} (f : Along b p) where
           omega (arith, f.end_is, end-front at w, moved);
     }
 
-    pub along-bad : bad (front at) ≡ true → Surveyed.Bad p ≡ surveyed b
+    pub along-bad : bad (front at) ≡ true → Err (damaged_at p) ≡ surveyed b
     unfolding surveyed
     along-bad g =
         let here : bad_place (records at) ≡ 0 =
@@ -162,33 +162,33 @@ module _ {b : List ℕ} {p : ℕ} (f : Along b p) where
         let place : bad_place (records b) ≡ p = omega (arith, f.place_is, here) in
         let damage : damaged (records b) ≡ true =
         f.damage-is ∙ ap damaged (records-front at w) ∙ ap (λ (x : Bool). x || damaged (records later)) g in
-        sym (ap₂ (λ (x : Bool) (n : ℕ). cond x (Surveyed.Bad n) (Surveyed.Ends (end b))) damage place)
+        sym (ap₂ (λ (x : Bool) (n : ℕ). cond x (Err (damaged_at n)) (Ok (end b))) damage place)
 
-  pub along-end : whole at ≡ false → Surveyed.Ends p ≡ surveyed b
+  pub along-end : whole at ≡ false → Ok p ≡ surveyed b
   unfolding surveyed
   along-end w =
       let place : end b ≡ p = omega (arith, f.end_is, end_none at w) in
       let damage : damaged (records b) ≡ false = f.damage-is ∙ ap damaged (records-none at w) in
-      sym (ap₂ (λ (x : Bool) (n : ℕ). cond x (Surveyed.Bad (bad_place (records b))) (Surveyed.Ends n)) damage place)
+      sym (ap₂ (λ (x : Bool) (n : ℕ). cond x (Err (damaged_at (bad_place (records b)))) (Ok n)) damage place)
 
 -- ---- what is told
 
 module _ (b : List ℕ) where
-  abbrev told : Bool → Surveyed
-  told x = cond x (Surveyed.Bad (bad_place (records b))) (Surveyed.Ends (end b))
+  abbrev told : Bool → Result ℕ Damaged
+  told x = cond x (Err (damaged_at (bad_place (records b)))) (Ok (end b))
 
-  pub surveyed-bad : (p : ℕ) → surveyed b ≡ Surveyed.Bad p → (damaged (records b) ≡ true) × (bad_place (records b) ≡ p)
+  pub surveyed-bad : (d : Damaged) → surveyed b ≡ Err d → (damaged (records b) ≡ true) × (bad_place (records b) ≡ d.place)
   unfolding surveyed
-  surveyed-bad p h = go (damaged (records b)) refl h
+  surveyed-bad d h = go (damaged (records b)) refl h
     where
-      go : (x : Bool) → damaged (records b) ≡ x → told x ≡ Surveyed.Bad p → (damaged (records b) ≡ true) × (bad_place (records b) ≡ p)
+      go : (x : Bool) → damaged (records b) ≡ x → told x ≡ Err d → (damaged (records b) ≡ true) × (bad_place (records b) ≡ d.place)
       go true e q = (e, cc)
       go false e q = absurd (let z : ◌≡◌ {A = ℕ} 0 1 = cc in let f : ⊥ = omega arith in f)
 
-  pub surveyed-ends : (p : ℕ) → surveyed b ≡ Surveyed.Ends p → (damaged (records b) ≡ false) × (p ≡ end b)
+  pub surveyed-ends : (p : ℕ) → surveyed b ≡ Ok p → (damaged (records b) ≡ false) × (p ≡ end b)
   unfolding surveyed
   surveyed-ends p h = go (damaged (records b)) refl h
     where
-      go : (x : Bool) → damaged (records b) ≡ x → told x ≡ Surveyed.Ends p → (damaged (records b) ≡ false) × (p ≡ end b)
+      go : (x : Bool) → damaged (records b) ≡ x → told x ≡ Ok p → (damaged (records b) ≡ false) × (p ≡ end b)
       go true e q = absurd (let z : ◌≡◌ {A = ℕ} 0 1 = cc in let f : ⊥ = omega arith in f)
       go false e q = (e, cc)

@@ -1,21 +1,30 @@
 -- Questions over the current shapes of a log: what is answered of what the inner functions find.
+--     distance-numbers     a distance, as it is answered
 --     nearest-refused, nearest-damaged, nearest-nobody, nearest-somebody     1 to 5, 15, 20, or the nearest shape
-use Rattle.std.specs.Prelude.{◌≡◌, refl, true, false, List, [], ◌∷◌, ◌++◌, ℕ, ltb, ℤ, pos, length}
+use Rattle.std.specs.Prelude.{◌≡◌, Option, None, Some, Err, refl, true, false, List, [], ◌∷◌, ◌++◌, ℕ, ltb, ℤ, pos, length}
 use Rattle.std.proofs.Common.{sym, ap, arith, le-ltb}
 use Rattle.plane.specs.Point.{Point, points}
 use Rattle.plane.specs.Reply.{Reply, answered, refused, here, later}
 use Rattle.plane.specs.Refusal.{shape_rows, Valid}
 use Rattle.plane.specs.Question.{Question, reply}
+use Rattle.clearance.specs.Answer.{spacing_numbers}
+use Rattle.clearance.specs.declared.measured.Distance.{Distance}
+use Rattle.answers.specs.Answer.{distance_values}
 use Rattle.journal.specs.Format.{records}
 use Rattle.journal.specs.Reading.{damaged}
 use Rattle.journal.specs.Current.{around}
 use Rattle.journal.specs.Survey.{surveyed}
-use Rattle.journal.specs.declared.survey.Surveyed.TheVariants as Surveyed
+use Rattle.journal.specs.declared.survey.Damaged.{Damaged}
 use Rattle.journal.proofs.theory.Survey.{surveyed-bad}
 use Rattle.neighbours.specs.Nearest.{nearest_numbers, ask_nearest}
 use Rattle.admission.specs.Admission.{Refuses}
 use Rattle.admission.specs.theory.Judged.{refuses}
 use Rattle.admission.specs.theory.Door.{shapes-refused, rest-refused, all-answered}
+
+-- how far apart two shapes are, as it is answered, is what clearance answers of them
+pub distance-numbers : (d : Option Distance) → distance_values d ≡ spacing_numbers d
+distance-numbers None = refl
+distance-numbers (Some d) = refl
 
 -- there are numbers exactly if there are records
 none_left : (A : List Point) (rs : List (List ℕ)) → [] ≡ nearest_numbers A rs → ltb (length rs) 1 ≡ true
@@ -34,9 +43,9 @@ module _ (b : List ℕ) (l : List ℤ) (f but : ℕ) where
   nearest-refused x = (shapes-refused q x).0
 
   module _ (v : Valid l) where
-    pub nearest-damaged : (p : ℕ) → surveyed b ≡ Surveyed.Bad p → refused 15 (p ∷ []) ≡ reply q
-    nearest-damaged p h =
-        let s = surveyed-bad b p h in
+    pub nearest-damaged : (d : Damaged) → surveyed b ≡ Err d → refused 15 (d.place ∷ []) ≡ reply q
+    nearest-damaged d h =
+        let s = surveyed-bad b d h in
         (rest-refused q v (record { by = _; first = here s.0; is = ap (λ (k : ℕ). refused 15 (k ∷ [])) (sym s.1) })).0
 
     module _ (sound : damaged (records b) ≡ false) where

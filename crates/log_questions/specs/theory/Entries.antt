@@ -1,6 +1,6 @@
 -- An entry of a log: what is answered of what the inner functions find.
 --     entry-damaged, entry-few, entry-room, entry_found     15, 20, 8, or the corners
-use Rattle.std.specs.Prelude.{◌≡◌, false, ℕ, ◌+◌, ◌/◌, ◌≤◌, ◌<◌, ltb, ℤ, get_or}
+use Rattle.std.specs.Prelude.{◌≡◌, Err, false, ℕ, ◌+◌, ◌/◌, ◌≤◌, ◌<◌, ltb, ℤ, get_or}
 use Rattle.std.proofs.Math.Path.{sym, ap}
 use Rattle.std.proofs.Common.{◌∙◌, arith}
 use mathlib.Core.List.{List, [], ◌∷◌}
@@ -19,7 +19,7 @@ use Rattle.journal.specs.Reading.{damaged}
 use Rattle.journal.specs.Current.{current, ask_entry}
 use Rattle.journal.specs.Survey.{surveyed, EntryAt}
 use Rattle.journal.specs.declared.head.Head.{Head}
-use Rattle.journal.specs.declared.survey.Surveyed.TheVariants as Surveyed
+use Rattle.journal.specs.declared.survey.Damaged.{Damaged}
 use Rattle.journal.proofs.theory.Survey.{surveyed-bad}
 use Rattle.admission.specs.theory.Judged.{refuses}
 use Rattle.admission.specs.theory.Door.{rest-refused, all-written}
@@ -35,9 +35,9 @@ module _ (b : List ℕ) (k : ℕ) (out : List ℤ) where
   abbrev all : ℕ
   all = length (current (records b))
 
-  pub entry-damaged : (p : ℕ) → surveyed b ≡ Surveyed.Bad p → Told (refused 15 (p ∷ [])) out
-  entry-damaged p h =
-      let s = surveyed-bad b p h in
+  pub entry-damaged : (d : Damaged) → surveyed b ≡ Err d → Told (refused 15 (d.place ∷ [])) out
+  entry-damaged d h =
+      let s = surveyed-bad b d h in
       rest-refused q tt (record { by = _; first = here s.0; is = ap (λ (i : ℕ). refused 15 (i ∷ [])) (sym s.1) })
 
   module _ (sound : damaged (records b) ≡ false) where

@@ -1,7 +1,7 @@
 -- Reading and adding: what is answered of what the inner functions find.
 --     read-damaged, read-missing, read-room, read_found     15, 19, 8, or the corners
 --     add-refused, add-damaged, add-full, add_done          1 to 5, 15, 16, or the stores
-use Rattle.std.specs.Prelude.{◌≡◌, refl, Bool, false, cond, ℕ, ◌-◌, ◌/◌, ◌≤◌, ◌<◌, leb, ltb, ℤ, take}
+use Rattle.std.specs.Prelude.{◌≡◌, Err, refl, Bool, false, cond, ℕ, ◌-◌, ◌/◌, ◌≤◌, ◌<◌, leb, ltb, ℤ, take}
 use Rattle.std.proofs.Math.Path.{sym, ap}
 use Rattle.std.proofs.Common.{◌∙◌, ap₂, arith}
 use Rattle.std.proofs.Math.Bool.{not}
@@ -23,7 +23,8 @@ use Rattle.journal.specs.Format.{recorded, records}
 use Rattle.journal.specs.Reading.{damaged, held, latest, damage_row, ask_read}
 use Rattle.journal.specs.Adding.{end, stores, made, add_reply, unless_refusal, added}
 use Rattle.journal.specs.Survey.{surveyed, LatestAt}
-use Rattle.journal.specs.declared.survey.Surveyed.TheVariants as Surveyed
+use Rattle.journal.specs.declared.survey.Damaged.{Damaged}
+use Rattle.journal.specs.declared.latest.Found.{Found}
 use Rattle.journal.proofs.theory.Survey.{surveyed-bad}
 use Rattle.admission.specs.Admission.{Refuses}
 use Rattle.admission.specs.theory.Judged.{refuses, refuses-append}
@@ -39,35 +40,36 @@ module _ (b : List ℕ) (n : ℕ) (out : List ℤ) where
   abbrev Read : Reply → List ℤ → Type 0
   Read r o = (r ≡ reply q) × (o ≡ output q)
 
-  pub read-damaged : (p : ℕ) → surveyed b ≡ Surveyed.Bad p → Read (refused 15 (p ∷ [])) out
-  read-damaged p h =
-      let s = surveyed-bad b p h in
+  pub read-damaged : (d : Damaged) → surveyed b ≡ Err d → Read (refused 15 (d.place ∷ [])) out
+  read-damaged d h =
+      let s = surveyed-bad b d h in
       rest-refused q tt (record { by = _; first = here s.0; is = ap (λ (k : ℕ). refused 15 (k ∷ [])) (sym s.1) })
 
   module _ (sound : damaged (records b) ≡ false) where
     pub read-missing : held n (records b) ≡ false → Read (refused 19 []) out
     read-missing h = rest-refused q tt (refuses {rows = q.rest} (later sound (here (ap not h))))
 
-    module _ (p c f : ℕ) (at : LatestAt n b p c f) where
+    module _ (f : Found) (at : LatestAt n b f) where
       abbrev found : List ℤ
       found = (latest n (records b)).list
 
-      count : length found ≡ c
-      count = ap length at.list-is ∙ words_at-length b c p
+      count : length found ≡ f.count
+      count = ap length at.list-is ∙ words_at-length b f.count f.place
 
       same : numbers (points found) ≡ found
       same = numbers-points found (omega (arith, count, at.paired))
 
-      pub read-room : length out < c → Read (refused 8 []) out
+      pub read-room : length out < f.count → Read (refused 8 []) out
       unfolding no_room
       read-room h = rest-refused q tt (refuses {rows = q.rest} (later sound (later (ap not at.has)
           (here (lt-ltb (length out) (length (numbers (points found))) (omega (arith, ap length same, count)))))))
 
-      pub read_found : c ≤ length out → {o : List ℤ} → o ≡ overwritten (words_at c b p) out → Read (answered (pos (c / 2) ∷ pos f ∷ [])) o
+      pub read_found : f.count ≤ length out → {o : List ℤ} → o ≡ overwritten (words_at f.count b f.place) out
+          → Read (answered (pos (f.count / 2) ∷ pos f.floor ∷ [])) o
       unfolding no_room
       read_found h {o} e =
           let large = le-ltb (length out) (length (numbers (points found))) (omega (arith, ap length same, count)) in
-          let half : c / 2 ≡ length (points found) = sym (points-length found ∙ ap (λ (k : ℕ). k / 2) count) in
+          let half : f.count / 2 ≡ length (points found) = sym (points-length found ∙ ap (λ (k : ℕ). k / 2) count) in
           all-written q tt (sound, (ap not at.has, (large, tt)))
           (ap₂ (λ (k m : ℕ). pos k ∷ pos m ∷ []) half (sym at.floor-is))
           (e ∙ ap (λ (l : List ℤ). overwritten l out) (sym at.list-is ∙ sym same))
@@ -104,12 +106,12 @@ module _ (b : List ℕ) (n floor : ℕ) (l : List ℤ) (k : ℕ) where
     unfolding add_reply
     past = sym (first_row-passed (shape_rows 1 l) (damage_row b ∷ full ∷ []) done (valid→accepted l 1 v))
 
-    pub add-damaged : (p : ℕ) → surveyed b ≡ Surveyed.Bad p → Adds (refused 15 (p ∷ [])) b
-    add-damaged p h =
-        let s = surveyed-bad b p h in
-        let given : refused 15 (p ∷ []) ≡ first_row (damage_row b ∷ full ∷ []) done =
+    pub add-damaged : (d : Damaged) → surveyed b ≡ Err d → Adds (refused 15 (d.place ∷ [])) b
+    add-damaged d h =
+        let s = surveyed-bad b d h in
+        let given : refused 15 (d.place ∷ []) ≡ first_row (damage_row b ∷ full ∷ []) done =
         rw s.0 (ap (λ (q : ℕ). refused 15 (q ∷ [])) (sym s.1)) in
-        follows (refused 15 (p ∷ [])) b (given ∙ past) refl
+        follows (refused 15 (d.place ∷ [])) b (given ∙ past) refl
 
     module _ (sound : damaged (records b) ≡ false) where
       pub add-full : length b - end b < length (recorded n floor l) → Adds (refused 16 []) b

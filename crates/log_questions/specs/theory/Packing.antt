@@ -1,6 +1,6 @@
 -- Packing: what is answered of what the inner functions find.
 --     pack-damaged, pack-full, pack-done     15, 16, or the stores
-use Rattle.std.specs.Prelude.{◌≡◌, Bool, false, cond, List, [], ◌∷◌, ℕ, ◌≤◌, ◌<◌, leb, pos, length, take}
+use Rattle.std.specs.Prelude.{◌≡◌, Err, Bool, false, cond, List, [], ◌∷◌, ℕ, ◌≤◌, ◌<◌, leb, pos, length, take}
 use Rattle.std.proofs.Math.Path.{refl, ap}
 use Rattle.std.proofs.Common.{sym, ◌∙◌}
 use borrow.Author.Tests.{lt-ltb, le-ltb}
@@ -9,7 +9,7 @@ use Rattle.journal.specs.Format.{records}
 use Rattle.journal.specs.Reading.{damaged}
 use Rattle.journal.specs.Adding.{made, unless_refusal}
 use Rattle.journal.specs.Survey.{surveyed}
-use Rattle.journal.specs.declared.survey.Surveyed.TheVariants as Surveyed
+use Rattle.journal.specs.declared.survey.Damaged.{Damaged}
 use Rattle.journal.proofs.theory.Survey.{surveyed-bad}
 use Rattle.packing.specs.Packing.{packed, mends_all, pack_reply, remade}
 
@@ -26,11 +26,11 @@ module _ (b : List ℕ) (but : ℕ) (t : List ℕ) (k : ℕ) where
   unfolding remade
   follows r c h e = (h, e ∙ ap (λ (x : Reply). unless_refusal x t all) h)
 
-  pub pack-damaged : (p : ℕ) → surveyed b ≡ Surveyed.Bad p → Packs (refused 15 (p ∷ [])) t
+  pub pack-damaged : (d : Damaged) → surveyed b ≡ Err d → Packs (refused 15 (d.place ∷ [])) t
   unfolding pack_reply
-  pack-damaged p h =
-      let s = surveyed-bad b p h in
-      follows (refused 15 (p ∷ [])) t (rw s.0 (ap (λ (q : ℕ). refused 15 (q ∷ [])) (sym s.1))) refl
+  pack-damaged d h =
+      let s = surveyed-bad b d h in
+      follows (refused 15 (d.place ∷ [])) t (rw s.0 (ap (λ (q : ℕ). refused 15 (q ∷ [])) (sym s.1))) refl
 
   module _ (sound : damaged (records b) ≡ false) where
     pub pack-full : length t < length (packed b but) → Packs (refused 16 []) t

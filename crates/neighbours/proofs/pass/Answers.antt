@@ -1,36 +1,27 @@
--- `pass` meets its contract. The invariant: what is found up to p, and what is still to come; the measure is what is left.
-use mathlib.Core.Path.{◌≡◌, sym, ◌∙◌, subst}
-use mathlib.Core.Bool.{true}
-use Prim.Native.Nat.{ℕ, ◌+◌, ◌≤◌}
-use native.Mathlib.Omega.{arith}
-use lib.ListN.{length, drop}
+-- `pass` meets its contract. The invariant: what is found up to p, and what is still to come.
+use mathlib.Core.Path.{sym, ◌∙◌}
+use Prim.Native.Nat.{ℕ}
 use Rattle.plane.specs.Point.{points}
-use Rattle.journal.specs.Format.{size, whole}
 use Rattle.journal.specs.Survey.{next_at}
-use Rattle.journal.proofs.theory.Survey.{size-at, next-inside}
+use Rattle.journal.proofs.theory.Walk.{on-start, on-here, on-next, on-end}
 use Rattle.neighbours.specs.theory.Search.{Searched, searched-start, searched-sized, searched-sound, searched-next, searched-end}
 use Rattle.neighbours.specs.theory.Search.{searched-met}
 use Rattle.neighbours.proofs.pass.Goals as goal
-use Rattle.neighbours.proofs.pass.Goals.{After-look-best, After-pair_at, In-loop-extent}
+use Rattle.neighbours.proofs.pass.Goals.{After-look-best}
 
--- there is a whole record here
-here : (c : In-loop-extent)
-    → whole (drop c.loop-extent.p c.args.log.now) ≡ true
-here c = sym c.whole_at.ensures ∙ c.loop-extent-test.true
-
-pub loop-extent-init : goal.loop-extent-init
-loop-extent-init c = (searched-start _ _ _ _ c.requires.0, c.requires.2)
-
-pub whole_at-requires : goal.whole_at-requires
-whole_at-requires c = c.loop-extent.invariant.0.inside
+pub loop-p-init : goal.loop-p-init
+loop-p-init c = (
+  on-start c.into_iter-p-iterator.ensures.into_iter_gives c.all-p-items.ensures (searched-start _ _ _ _ c.requires.0),
+  c.requires.2,
+)
 
 pub look-best-requires : goal.look-best-requires
 look-best-requires c =
-    let found = c.loop-extent.invariant.0 in (
-      searched-sound found (here (goal.at.look-best-requires c).In-loop-extent),
+    let it = on-here c.loop-p.invariant.0 c.in-Some.ensures.steps in (
+      searched-sound it.1 it.0,
       c.requires.1,
-      searched-sized found c.requires.1.shape,
-      c.loop-extent.invariant.1,
+      searched-sized it.1 c.requires.1.shape,
+      c.loop-p.invariant.1,
       c.extent_of-extent.ensures,
     )
 
@@ -38,8 +29,8 @@ look-best-requires c =
 looked : (c : After-look-best) →
     let args = c.args in
     let b = args.log.now in
-    Searched (points args.list.now) args.floor args.but b (next_at b c.loop-extent.p) c.look-best.result
-looked c = searched-next c.loop-extent.invariant.0 (here (goal.at.After-look-best c).In-loop-extent) c.look-best.ensures.0
+    Searched (points args.list.now) args.floor args.but b (next_at b c.in-Some.p) c.look-best.result
+looked c = let it = on-here c.loop-p.invariant.0 c.in-Some.ensures.steps in searched-next it.1 it.0 c.look-best.ensures.0
 
 pub shape_of-buffer-then-is_met : goal.shape_of-buffer-then-is_met
 shape_of-buffer-then-is_met c =
@@ -49,40 +40,18 @@ pub returns-then-is_met : goal.returns-then-is_met
 returns-then-is_met c =
     searched-met (looked (goal.at.returns-then-is_met c).After-look-best) c.requires.1.shape (sym c.is_met.ensures ∙ c.if-is_met.true)
 
--- the next place is past the record, and still inside
-step : (c : After-pair_at) →
-    let log = c.args.log.now in
-    (c.pair_at.result ≡ size (drop c.loop-extent.p log)) × (c.loop-extent.p + (2 + c.pair_at.result) ≤ length log)
-step c =
-    let log = c.args.log.now in
-    let same = c.pair_at.ensures.0 ∙ sym (size-at log c.loop-extent.p) in
-    (same, omega (arith, same, next-inside log c.loop-extent.p (here (goal.at.After-pair_at c).In-loop-extent)))
-
-pub pair_at-requires : goal.pair_at-requires
-pair_at-requires c =
-    omega (arith, next-inside _ c.loop-extent.p (here (goal.at.pair_at-requires c).In-loop-extent))
-
-pub loop-extent-preserved : goal.loop-extent-preserved
-loop-extent-preserved c =
+pub loop-p-preserved : goal.loop-p-preserved
+loop-p-preserved c =
     let args = c.args in (
-      subst (λ (k : ℕ). Searched (points args.list.now) args.floor args.but args.log.now (c.loop-extent.p + (2 + k))
-          c.look-best.result) (sym (step c).0) (looked (goal.at.loop-extent-preserved c).After-look-best),
+      on-next c.loop-p.invariant.0 (λ (p : ℕ). Searched (points args.list.now) args.floor args.but args.log.now p c.look-best.result)
+          c.in-Some.ensures.steps (looked (goal.at.loop-p-preserved c).After-look-best),
       c.look-best.ensures.1,
     )
 
 pub shape_of-buffer : goal.shape_of-buffer
-shape_of-buffer c = c.loop-extent.invariant.1 ∙ sym c.requires.2
+shape_of-buffer c = c.loop-p.invariant.1 ∙ sym c.requires.2
 
 pub returns : goal.returns
 returns c =
-    searched-end c.loop-extent.invariant.0 c.requires.1.shape
-    (sym c.whole_at.ensures ∙ c.loop-extent-test.false)
-
-pub overflow_add-p : goal.overflow_add-p
-overflow_add-p c = omega (arith, c.pair_at.ensures.1)
-
-pub overflow_add-p-in-loop-extent : goal.overflow_add-p-in-loop-extent
-overflow_add-p-in-loop-extent c = omega (arith, (step c).1)
-
-pub loop-extent-smaller : goal.loop-extent-smaller
-loop-extent-smaller c = omega (arith, (step c).1)
+    let it = on-end c.loop-p.invariant.0 c.in-None.ensures.steps in
+    searched-end it.1 c.requires.1.shape it.0

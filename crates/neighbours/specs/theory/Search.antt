@@ -6,7 +6,7 @@
 --     here-numbers, count_fits     the shape at a place
 --     onward-other, onward-passed, onward-kept    the record at a place is looked at
 --     Searched, searched-start, searched-next, searched-end, searched-met      the loop over a log
-use Rattle.std.specs.Prelude.{◌≡◌, Bool, true, false, ◌&&◌, ℕ, ◌*◌, ◌≤◌, length, drop, ℤ, pos, ◌*ℤ◌, ◌≤ℤ◌}
+use Rattle.std.specs.Prelude.{◌≡◌, Bool, true, false, ◌&&◌, Option, Some, None, is_none, ℕ, ◌*◌, ◌≤◌, length, drop, ℤ, pos, ◌*ℤ◌, ◌≤ℤ◌}
 use Rattle.std.proofs.Math.Path.{refl, sym, ap, ap₂}
 use Rattle.std.proofs.Common.{◌∙◌, subst, true≢false, arith}
 use Rattle.std.proofs.Math.Bool.{not, cond}
@@ -34,8 +34,8 @@ use Rattle.journal.proofs.theory.Stepping.{records-step, records-end, here-good,
 use Rattle.neighbours.specs.Nearest.{shape_of, is_as_near, nearest_of, nearest_numbers}
 use Rattle.neighbours.specs.Spacing.{spacing_numbers, fraction_of}
 use Rattle.neighbours.specs.Search.{near_numbers, is_latest, is_nearer, is_met, kept_of, NearSized, Best, Still, Onward}
-use Rattle.neighbours.specs.declared.spacing.Spacing.{Spacing}
-use Rattle.neighbours.specs.declared.Near.{Near}
+use Rattle.clearance.specs.declared.measured.Distance.{Distance}
+use Rattle.answers.specs.declared.Nearest.{Nearest}
 use Rattle.neighbours.specs.theory.Least.{All, all_in, least_of-in}
 use Rattle.neighbours.specs.theory.Spacings.{spacing-fraction, spacing-sized}
 use Rattle.neighbours.specs.theory.Near.{Whole, nearest-step, good-whole, around-whole}
@@ -66,11 +66,11 @@ module _ (f but : ℕ) (r : List ℕ) (rs : List (List ℕ)) where
 -- ---- what is found
 
 module _ (A : List Point) (s : IsShape A) where
-  pub still-sized : (all rest : List (List ℕ)) (best : Near) → Still A all best rest → NearSized best
-  still-sized all rest Near.Nobody b = tt
-  still-sized all rest (Near.Of n t) b = spacing-sized A (shape_of b.one) s b.shape t b.spacing-is
+  pub still-sized : (all rest : List (List ℕ)) (best : Option Nearest) → Still A all best rest → NearSized best
+  still-sized all rest None b = tt
+  still-sized all rest (Some t) b = spacing-sized A (shape_of b.one) s b.shape t.distance b.spacing-is
 
-  near-fractions : (x y : List ℕ) (t u : Spacing) → spacing_numbers t ≡ clearance_numbers A (shape_of x)
+  near-fractions : (x y : List ℕ) (t u : Option Distance) → spacing_numbers t ≡ clearance_numbers A (shape_of x)
       → spacing_numbers u ≡ clearance_numbers A (shape_of y) → is_as_near A x y ≡ no_more (fraction_of t) (fraction_of u)
   unfolding is_as_near
   near-fractions x y t u h k =
@@ -83,43 +83,46 @@ module _ (A : List Point) (s : IsShape A) where
   -- a record y is looked at
   module _ (all rest : List (List ℕ)) (y : List ℕ) (w : Whole y) (whole-rest : All Whole rest) where
     -- the first of the least, by which of what is found and y is nearer
-    next : {m : ℕ} {t : Spacing} (b : Best A all m t (y ∷ rest)) {x : Bool} → is_as_near A b.one y ≡ x
+    next : {t : Nearest} (b : Best A all t (y ∷ rest)) {x : Bool} → is_as_near A b.one y ≡ x
         → let near = nearest_of A (cond x b.one y) rest in nearest_numbers A all ≡ pos (name near) ∷ clearance_numbers A (shape_of near)
     next b e = b.still ∙ ap (λ (near : List ℕ). pos (name near) ∷ clearance_numbers A (shape_of near))
         (nearest-step A s b.one y rest (b.shape, (w, whole-rest)) ∙ ap (λ (x : Bool). nearest_of A (cond x b.one y) rest) e)
 
-    stays : {m : ℕ} {t : Spacing} (b : Best A all m t (y ∷ rest)) → is_as_near A b.one y ≡ true → Best A all m t rest
+    stays : {t : Nearest} (b : Best A all t (y ∷ rest)) → is_as_near A b.one y ≡ true → Best A all t rest
     stays b e =
         record { one = b.one; shape = b.shape; name-is = b.name-is; spacing-is = b.spacing-is; still = next b e }
 
-    pub still-passed : (best : Near) → Still A all best (y ∷ rest) → is_nearer (distance A (shape_of y)) best ≡ false → Still A all best
+    pub still-passed : (best : Option Nearest) → Still A all best (y ∷ rest) → is_nearer (distance A (shape_of y)) best ≡ false
+        → Still A all best
         rest
-    still-passed Near.Nobody b e = absurd (true≢false e)
-    still-passed (Near.Of m t) b e = stays b (far (not-false _ e))
+    still-passed None b e = absurd (true≢false e)
+    still-passed (Some t) b e = stays b (far (not-false _ e))
       where
-        far : no_more (fraction_of t) (distance A (shape_of y)) ≡ true → is_as_near A b.one y ≡ true
+        far : no_more (fraction_of t.distance) (distance A (shape_of y)) ≡ true → is_as_near A b.one y ≡ true
         far h = as-near b.one y (subst (λ (f : Fraction). no_more f (distance A (shape_of y)) ≡ true)
-            (spacing-fraction A (shape_of b.one) t b.spacing-is) h)
+            (spacing-fraction A (shape_of b.one) t.distance b.spacing-is) h)
 
-    pub still_kept : (n : ℕ) (u : Spacing) → name y ≡ n → spacing_numbers u ≡ clearance_numbers A (shape_of y) → (best : Near)
-        → Still A all best (y ∷ rest) → Still A all (kept_of true n u best) rest
-    still_kept n u named spaced Near.Nobody b = record {
+    pub still_kept : (u : Nearest) → name y ≡ u.name → spacing_numbers u.distance ≡ clearance_numbers A (shape_of y)
+        → (best : Option Nearest)
+        → Still A all best (y ∷ rest) → Still A all (kept_of true u best) rest
+    still_kept u named spaced None b = record {
       one = y;
       shape = w;
       name-is = named;
       spacing-is = spaced;
       still = ap (nearest_numbers A) b;
     }
-    still_kept n u named spaced (Near.Of m t) b =
-        go (no_more (fraction_of t) (fraction_of u)) (near-fractions b.one y t u b.spacing-is spaced)
+    still_kept u named spaced (Some t) b =
+        go (no_more (fraction_of t.distance) (fraction_of u.distance))
+        (near-fractions b.one y t.distance u.distance b.spacing-is spaced)
       where
-        go : (x : Bool) → is_as_near A b.one y ≡ x → Still A all (cond (not x && true) (Near.Of n u) (Near.Of m t)) rest
+        go : (x : Bool) → is_as_near A b.one y ≡ x → Still A all (cond (not x && true) (Some u) (Some t)) rest
         go true e = stays b e
         go false e = record { one = y; shape = w; name-is = named; spacing-is = spaced; still = next b e }
 
-  pub still-end : (all : List (List ℕ)) (best : Near) → Still A all best [] → near_numbers best ≡ nearest_numbers A all
-  still-end all Near.Nobody b = sym (ap (nearest_numbers A) b)
-  still-end all (Near.Of n t) b =
+  pub still-end : (all : List (List ℕ)) (best : Option Nearest) → Still A all best [] → near_numbers best ≡ nearest_numbers A all
+  still-end all None b = sym (ap (nearest_numbers A) b)
+  still-end all (Some t) b =
       ap₂ (λ (m : ℕ) (l : List ℤ). pos m ∷ l) (sym b.name-is) b.spacing-is ∙ sym b.still
 
   -- a shape that is met is at 0/1, which no distance is below
@@ -141,20 +144,22 @@ module _ (A : List Point) (s : IsShape A) where
       least = subst (λ (f : Fraction). no_more f far ≡ true) e
           (le-no_more (over (pos 0) (pos 1)) far (under far.numerator far.denominator above))
 
-  pub still-met : (all rest : List (List ℕ)) (best : Near) → All Whole rest → Still A all best rest → is_met best ≡ true
+  pub still-met : (all rest : List (List ℕ)) (best : Option Nearest) → All Whole rest → Still A all best rest → is_met best ≡ true
       → near_numbers best ≡ nearest_numbers A all
-  still-met all rest Near.Nobody w b e = absurd (true≢false (sym e))
-  still-met all rest (Near.Of n (Spacing.Apart d)) w b e = absurd (true≢false (sym e))
-  still-met all rest (Near.Of n Spacing.Meets) w b e =
-      ap₂ (λ (m : ℕ) (l : List ℤ). pos m ∷ l) (sym b.name-is) b.spacing-is
-      ∙ sym (b.still ∙ ap (λ (near : List ℕ). pos (name near) ∷ clearance_numbers A (shape_of near))
-      (met-nearest b.one rest w (spacing-fraction A (shape_of b.one) Spacing.Meets b.spacing-is)))
+  still-met all rest None w b e = absurd (true≢false (sym e))
+  still-met all rest (Some t) w b e = met t.distance refl e
+    where
+      met : (d : Option Distance) → t.distance ≡ d → is_none d ≡ true → near_numbers (Some t) ≡ nearest_numbers A all
+      met (Some d) k e = absurd (true≢false (sym e))
+      met None k e = ap₂ (λ (m : ℕ) (l : List ℤ). pos m ∷ l) (sym b.name-is) b.spacing-is
+          ∙ sym (b.still ∙ ap (λ (near : List ℕ). pos (name near) ∷ clearance_numbers A (shape_of near))
+          (met-nearest b.one rest w (ap fraction_of (sym k) ∙ spacing-fraction A (shape_of b.one) t.distance b.spacing-is)))
 
 -- an older record of its name is passed over
-kept-older : (n : ℕ) (u : Spacing) (best : Near) → kept_of false n u best ≡ best
-kept-older n u best = go (is_nearer (fraction_of u) best)
+kept-older : (u : Nearest) (best : Option Nearest) → kept_of false u best ≡ best
+kept-older u best = go (is_nearer (fraction_of u.distance) best)
   where
-    go : (x : Bool) → cond (x && false) (Near.Of n u) best ≡ best
+    go : (x : Bool) → cond (x && false) (Some u) best ≡ best
     go true = refl
     go false = refl
 
@@ -185,7 +190,7 @@ module _ {b : List ℕ} {p : ℕ} (sound : Sound b p) {h : Head} (st : Stated b 
   around-at : {ss : List (List ℕ)} → around f but (here ∷ later) ≡ ss → around f but (records (drop p b)) ≡ ss
   around-at e = ap (around f but) (records-step b p sound.here) ∙ e
 
-  module _ (A : List Point) (best : Near) where
+  module _ (A : List Point) (best : Option Nearest) where
     same : around f but (here ∷ later) ≡ around f but later → Onward A f but b p best best
     same e all x = subst (Still A all best) (around-at e) x
 
@@ -212,33 +217,33 @@ module _ {b : List ℕ} {p : ℕ} (sound : Sound b p) {h : Head} (st : Stated b 
           go false e = λ all x. still-passed A s all (around f but later) here (good-whole here (here-good sound)) whole-later best
               (current-here e all x) (subst (λ l. is_nearer (distance A (points l)) best ≡ false) (sym st.list-is) far)
 
-      pub onward-kept : (u : Spacing) → spacing_numbers u ≡ clearance_numbers A shape
-          → Onward A f but b p best (kept_of (is_latest b p) h.name u best)
-      onward-kept u spaced = go (held (name here) later) refl
+      pub onward-kept : (u : Nearest) → u.name ≡ h.name → spacing_numbers u.distance ≡ clearance_numbers A shape
+          → Onward A f but b p best (kept_of (is_latest b p) u best)
+      onward-kept u named spaced = go (held (name here) later) refl
         where
-          go : (x : Bool) → held (name here) later ≡ x → Onward A f but b p best (kept_of (not x) h.name u best)
-          go true e = subst (Onward A f but b p best) (sym (kept-older h.name u best)) (same (around-held f but here later e))
-          go false e = λ all x. still_kept A s all (around f but later) here (good-whole here (here-good sound)) whole-later h.name u
-              st.name-is (spaced ∙ ap (λ l. clearance_numbers A (points l)) (sym st.list-is)) best (current-here e all x)
+          go : (x : Bool) → held (name here) later ≡ x → Onward A f but b p best (kept_of (not x) u best)
+          go true e = subst (Onward A f but b p best) (sym (kept-older u best)) (same (around-held f but here later e))
+          go false e = λ all x. still_kept A s all (around f but later) here (good-whole here (here-good sound)) whole-later u
+              (st.name-is ∙ sym named) (spaced ∙ ap (λ l. clearance_numbers A (points l)) (sym st.list-is)) best (current-here e all x)
 
 -- ---- the loop
 
-pub record Searched (A : List Point) (f but : ℕ) (b : List ℕ) (p : ℕ) (best : Near) : Type 0 where
+pub record Searched (A : List Point) (f but : ℕ) (b : List ℕ) (p : ℕ) (best : Option Nearest) : Type 0 where
   pub inside : p ≤ length b
   pub good : damaged (records (drop p b)) ≡ false
   pub still : Still A (around f but (records b)) best (around f but (records (drop p b)))
 
-pub searched-start : (A : List Point) (f but : ℕ) (b : List ℕ) → damaged (records b) ≡ false → Searched A f but b 0 Near.Nobody
+pub searched-start : (A : List Point) (f but : ℕ) (b : List ℕ) → damaged (records b) ≡ false → Searched A f but b 0 None
 searched-start A f but b g = record { inside = omega arith; good = g; still = refl }
 
-module _ {A : List Point} {f but : ℕ} {b : List ℕ} {p : ℕ} {best : Near} (x : Searched A f but b p best) where
+module _ {A : List Point} {f but : ℕ} {b : List ℕ} {p : ℕ} {best : Option Nearest} (x : Searched A f but b p best) where
   pub searched-sized : IsShape A → NearSized best
   searched-sized s = still-sized A s (around f but (records b)) (around f but (records (drop p b))) best x.still
 
   pub searched-sound : whole (drop p b) ≡ true → Sound b p
   searched-sound w = record { here = w; good = x.good }
 
-  pub searched-next : whole (drop p b) ≡ true → {r : Near} → Onward A f but b p best r → Searched A f but b (next_at b p) r
+  pub searched-next : whole (drop p b) ≡ true → {r : Option Nearest} → Onward A f but b p best r → Searched A f but b (next_at b p) r
   searched-next w on = record {
     inside = next-inside b p w;
     good = later-good (searched-sound w);

@@ -1,13 +1,11 @@
 -- The distance of two shapes as the code holds it.
 --     ratio-less          ratios compare as the fractions that they are; `ratio-no_more`: and with others
---     meets-ratio, corners-ratio, second-ratio, first-ratio      what the ratio is
---     apart-numbers       what clearance answers, by whether the shapes are apart
 --     spacing-fraction    what clearance answers tells the distance; `spacing-sized`: and what it is divided by is not 0
-use Rattle.std.specs.Prelude.{◌≡◌, refl, Bool, true, false, not, cond, List, [], ◌∷◌, ℕ, ◌*◌, ◌<◌, ltb, ℤ, ◌*ℤ◌, ◌≤ℤ◌, ◌<ℤ◌}
+use Rattle.std.specs.Prelude.{◌≡◌, refl, Bool, true, false, not, cond, Option, Some, None, List, [], ◌∷◌, ℕ, ◌*◌, ◌<◌, ltb, ℤ, ◌*ℤ◌, ◌≤ℤ◌}
+use Rattle.std.specs.Prelude.{◌<ℤ◌}
 use Rattle.std.proofs.Common.{sym, ◌∙◌, subst, arith, ltb-true, ltb-false, le→leb, lt→ltb}
 use Rattle.std.proofs.Math.Path.{ap, ap₂}
 use Rattle.std.proofs.Math.IntN.{pos, nat_abs}
-use Rattle.integer.specs.Ring.{ring, reify}
 use Rattle.integer.specs.Linear.{linear, lia, ◌&◌}
 use Rattle.integer.specs.Order.{◌<×<◌, ◌<×≤◌, ◌≡×◌, contra≤, contra<, lt-lt_z, le_of_eq}
 use Rattle.integer.specs.Bound.{size-square}
@@ -21,8 +19,7 @@ use Rattle.clearance.specs.declared.measured.Distance.{Distance}
 use Rattle.clearance.specs.theory.Distance.{le-no_more, lt-more, no_more-trans}
 use Rattle.clearance.specs.theory.Distance.{distance-apart, distance_none, distance-whole, distance-positive}
 use Rattle.neighbours.specs.Spacing.{spacing_numbers, apart_fraction, fraction_of, ApartSized, Sized, HasRatio}
-use Rattle.neighbours.specs.declared.spacing.Spacing.{Spacing}
-use Rattle.neighbours.specs.declared.spacing.Ratio.{Ratio}
+use Rattle.clearance.specs.declared.measured.Ratio.{Ratio}
 
 -- ---- comparing
 
@@ -79,32 +76,11 @@ ratio-no_more f g r df dg hf h =
     no_more-trans f w g df (lt-pos 0 r.squared hf.some) dg (le-no_more f w (le_of_eq (sym hf.is))) h
 
 -- what a distance is divided by
-pub sized-whole : (w : Spacing) → Sized w → pos 0 <ℤ (fraction_of w).denominator
-sized-whole Spacing.Meets h = record { lt = tt }
-sized-whole (Spacing.Apart (Distance.Corners i j d w)) h = record { lt = tt }
-sized-whole (Spacing.Apart (Distance.OnSecond c e t q w)) h = lt-pos 0 q h
-sized-whole (Spacing.Apart (Distance.OnFirst c e t q w)) h = lt-pos 0 q h
-
--- two corners at n are at n·n/n, and a corner over an edge at t·t/q
-times-one : (x : ℤ) → x *ℤ pos 1 ≡ x
-times-one x = ring (x ∷ []) (search reify depth 40) tt
-
-module _ (d : Distance) (sized : ApartSized d) where
-  pub corners-ratio : (i j n w : ℕ) → d ≡ Distance.Corners i j n w → HasRatio (apart_fraction d) (record { turn = n; squared = n })
-  corners-ratio i j n w e = subst (λ (x : Distance). HasRatio (apart_fraction x) (record { turn = n; squared = n })) (sym e)
-      (record { some = subst ApartSized e sized; is = times-one (pos (n * n)) })
-
-  pub second-ratio : (c f t q w : ℕ) → d ≡ Distance.OnSecond c f t q w → HasRatio (apart_fraction d) (record { turn = t; squared = q })
-  second-ratio c f t q w e = subst (λ (x : Distance). HasRatio (apart_fraction x) (record { turn = t; squared = q })) (sym e)
-      (record { some = subst ApartSized e sized; is = refl })
-
-  pub first-ratio : (c f t q w : ℕ) → d ≡ Distance.OnFirst c f t q w → HasRatio (apart_fraction d) (record { turn = t; squared = q })
-  first-ratio c f t q w e = subst (λ (x : Distance). HasRatio (apart_fraction x) (record { turn = t; squared = q })) (sym e)
-      (record { some = subst ApartSized e sized; is = refl })
-
-pub meets-ratio : {w : Spacing} → w ≡ Spacing.Meets → HasRatio (fraction_of w) (record { turn = 0; squared = 1 })
-meets-ratio e = subst (λ (x : Spacing). HasRatio (fraction_of x) (record { turn = 0; squared = 1 })) (sym e)
-    (record { some = omega arith; is = refl })
+pub sized-whole : (w : Option Distance) → Sized w → pos 0 <ℤ (fraction_of w).denominator
+sized-whole None h = record { lt = tt }
+sized-whole (Some (Distance.Corners i j d w)) h = record { lt = tt }
+sized-whole (Some (Distance.OnSecond c e t q w)) h = lt-pos 0 q h
+sized-whole (Some (Distance.OnFirst c e t q w)) h = lt-pos 0 q h
 
 -- ---- what clearance answers
 
@@ -115,9 +91,6 @@ other-kind m n e k = absurd (k (cc e))
 module _ (A B : List Point) where
   abbrev told : Bool → List ℤ
   told t = cond t (numbers_of A B (nearest A B)) (pos 0 ∷ [])
-
-  pub apart-numbers : {t : Bool} → apart A B ≡ t → told t ≡ clearance_numbers A B
-  apart-numbers e = ap told (sym e)
 
   -- the candidate's fraction
   apart-fraction : (d : Distance) (c : Candidate) → values_of d ≡ numbers_of A B c → apart_fraction d ≡ over (top A B c) (bottom A B c)
@@ -146,17 +119,17 @@ module _ (A B : List Point) where
   numbers-some (on_second i f) e = other-kind 0 2 e (λ z. omega arith)
   numbers-some (on_first j f) e = other-kind 0 3 e (λ z. omega arith)
 
-  pub spacing-fraction : (w : Spacing) → spacing_numbers w ≡ clearance_numbers A B → fraction_of w ≡ distance A B
+  pub spacing-fraction : (w : Option Distance) → spacing_numbers w ≡ clearance_numbers A B → fraction_of w ≡ distance A B
   spacing-fraction w h = go w (apart A B) refl h
     where
-      go : (v : Spacing) (t : Bool) → apart A B ≡ t → spacing_numbers v ≡ told t → fraction_of v ≡ distance A B
-      go Spacing.Meets false e g = sym (distance_none A B e)
-      go Spacing.Meets true e g = absurd (numbers-some (nearest A B) g)
-      go (Spacing.Apart d) false e g = absurd (values-some d g)
-      go (Spacing.Apart d) true e g = apart-fraction d (nearest A B) g ∙ sym (distance-apart A B e)
+      go : (v : Option Distance) (t : Bool) → apart A B ≡ t → spacing_numbers v ≡ told t → fraction_of v ≡ distance A B
+      go None false e g = sym (distance_none A B e)
+      go None true e g = absurd (numbers-some (nearest A B) g)
+      go (Some d) false e g = absurd (values-some d g)
+      go (Some d) true e g = apart-fraction d (nearest A B) g ∙ sym (distance-apart A B e)
 
   module _ (s : IsShape A) (t : IsShape B) where
-    pub spacing-sized : (w : Spacing) → spacing_numbers w ≡ clearance_numbers A B → Sized w
+    pub spacing-sized : (w : Option Distance) → spacing_numbers w ≡ clearance_numbers A B → Sized w
     spacing-sized w h = go w (apart A B) refl h (spacing-fraction w h)
       where
         above : (n : ℕ) → pos 0 <ℤ pos n → 0 < n
@@ -168,7 +141,7 @@ module _ (A B : List Point) where
         sized (Distance.OnSecond c f u q w) e n m = above q (subst (λ (f : Fraction). pos 0 <ℤ f.denominator) (sym e) m)
         sized (Distance.OnFirst c f u q w) e n m = above q (subst (λ (f : Fraction). pos 0 <ℤ f.denominator) (sym e) m)
 
-        go : (v : Spacing) (x : Bool) → apart A B ≡ x → spacing_numbers v ≡ told x → fraction_of v ≡ distance A B → Sized v
-        go Spacing.Meets x e g f = tt
-        go (Spacing.Apart d) false e g f = absurd (values-some d g)
-        go (Spacing.Apart d) true e g f = sized d f (distance-positive A B s t e) (distance-whole A B s t)
+        go : (v : Option Distance) (x : Bool) → apart A B ≡ x → spacing_numbers v ≡ told x → fraction_of v ≡ distance A B → Sized v
+        go None x e g f = tt
+        go (Some d) false e g f = absurd (values-some d g)
+        go (Some d) true e g f = sized d f (distance-positive A B s t e) (distance-whole A B s t)

@@ -29,15 +29,16 @@ returns-then-pair_at-but c =
     let args = c.args in
     let b = args.old.now in
     let later = held (name (record_at b args.p)) (records (drop (next_at b args.p) b)) in
-    sym (ap (λ (t : Bool). not t && not later)
-    (eq-eqb _ args.but (name-read (goal.at.returns-then-pair_at-but c).After-pair_at ∙ c.if-pair_at-but.true)))
+    c.is_latest.ensures
+    ∙ sym (ap (λ (t : Bool). not t && not later)
+    (ne_eqb _ args.but (λ e. c.if-pair_at-but.true (sym (name-read (goal.at.returns-then-pair_at-but c).After-pair_at) ∙ e))))
 
-pub returns : goal.returns
+pub returns-else-pair_at-but : goal.returns-else-pair_at-but
 unfolding is_other
-returns c =
+returns-else-pair_at-but c =
     let args = c.args in
     let b = args.old.now in
     let later = held (name (record_at b args.p)) (records (drop (next_at b args.p) b)) in
-    c.is_latest.ensures
+    ap not (eq-eqb _ args.but c.if-pair_at-but.false)
     ∙ sym (ap (λ (t : Bool). not t && not later)
-    (ne_eqb _ args.but (λ e. c.if-pair_at-but.false (sym (name-read (goal.at.returns c).After-pair_at) ∙ e))))
+    (eq-eqb _ args.but (name-read (goal.at.returns-else-pair_at-but c).After-pair_at ∙ c.if-pair_at-but.false)))

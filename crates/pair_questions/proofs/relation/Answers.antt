@@ -1,12 +1,13 @@
 -- `relation` meets its contract: a list is refused, or the shapes are placed.
-use mathlib.Core.Path.{◌∙◌, ap}
+use mathlib.Core.Path.{ap}
 use mathlib.Core.List.{[], ◌∷◌}
 use lib.IntN.{ℤ, pos}
-use Rattle.plane.specs.Floor.{Floored, on, Same}
+use Rattle.plane.specs.Floor.{Floored, on}
 use Rattle.plane.specs.Question.{ask_relation}
+use Rattle.admission.specs.theory.Judged.{held, refusal-of, handed-on}
 use Rattle.admission.specs.theory.Door.{shapes-refused, all-answered}
 use Rattle.pair_questions.proofs.relation.Goals as goal
-use Rattle.pair_questions.proofs.relation.Goals.{In_default, Start}
+use Rattle.pair_questions.proofs.relation.Goals.{Start}
 
 -- the two shapes
 abbrev one : Start → Floored
@@ -15,20 +16,17 @@ one c = on c.args.a.now c.args.f
 abbrev other : Start → Floored
 other c = on c.args.b.now c.args.g
 
--- past the judging they are shapes on one floor
-shapes : (c : In_default) → Same (one (goal.at.In_default c).Start) (other (goal.at.In_default c).Start)
-shapes c = c.admit_pair.ensures.valid c.in_default.is
-
-pub returns-in-No : goal.returns-in-No
-returns-in-No c =
-    (shapes-refused (ask_relation (one (goal.at.returns-in-No c).Start) (other (goal.at.returns-in-No c).Start))
-    (c.admit_pair.ensures.no _ c.in-No.is)).0
+pub returns-in_err-admit_pair : goal.returns-in_err-admit_pair
+returns-in_err-admit_pair c =
+    rw (handed-on _ _ c.from_residual.ensures.1)
+    (shapes-refused (ask_relation (one (goal.at.returns-in_err-admit_pair c).Start) (other (goal.at.returns-in_err-admit_pair c).Start))
+    (refusal-of c.in_err-admit_pair.ensures)).0
 
 pub relation-requires : goal.relation-requires
-relation-requires c = let both = shapes c in (both.first-valid, both.second-valid)
+relation-requires c = let both = held c.in_ok-admit_pair.ensures in (both.first-valid, both.second-valid)
 
 pub returns : goal.returns
 returns c =
-    c.relation_of.ensures ∙ all-answered (ask_relation (one (goal.at.returns c).Start) (other (goal.at.returns c).Start))
-    (shapes (goal.at.returns c).In_default) tt
+    all-answered (ask_relation (one (goal.at.returns c).Start) (other (goal.at.returns c).Start))
+    (held c.in_ok-admit_pair.ensures) tt
     (ap (λ (z : ℤ). z ∷ pos c.args.f ∷ []) c.relation.ensures)

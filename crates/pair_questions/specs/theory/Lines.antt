@@ -4,7 +4,7 @@ use Rattle.std.specs.Prelude.{◌≡◌, refl, Bool, true, false, [], ◌∷◌,
 use Rattle.plane.specs.Tangent.{tangent_from, tangent_to}
 use Rattle.plane.specs.Floor.{Floored, corners}
 use Rattle.plane.specs.Question.{values, ask_tangents}
-use Rattle.answers.specs.declared.Line.{Line}
+use Rattle.tangents.specs.declared.Line.{Line}
 
 module _ (a b : Floored) where
   -- the line with the shapes on these sides

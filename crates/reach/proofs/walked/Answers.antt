@@ -111,9 +111,6 @@ pair-requires c =
     let pre = c.requires in
     (pre.0, pre.1, pre.2, c.next-s.ensures.1, c.next-t.ensures.1)
 
-pub better-best-requires : goal.better-best-requires
-better-best-requires c = tt
-
 pub loop-s-smaller : goal.loop-s-smaller
 loop-s-smaller c =
     let inv = c.loop-s.invariant in

@@ -1,35 +1,39 @@
 -- Every refusal and every answer has room in a reply: nothing is cut when it crosses.
-use Rattle.std.specs.Prelude.{[], ◌∷◌, ◌++◌, ℕ, ◌≤◌, pos, length}
-use Rattle.std.proofs.Common.{lit<, lit≤}
-use Rattle.clearance.specs.Answer.{values_of}
+--     floor-room      an answer of at most eight values has room for its floor
+--     distance-few    a distance leaves room for two names and a floor
+use Rattle.std.specs.Prelude.{Bool, List, [], ◌∷◌, ℕ, ◌≤◌, ℤ, pos, length, Option, Some, None, Result, Ok, Err}
+use Rattle.std.proofs.Common.{lit<, lit≤, arith, length-append}
+use Rattle.admission.specs.Answer.{on_floor}
+use Rattle.tablet.specs.declared.reading.Fault.{Fault}
+use Rattle.plane.specs.Reply.{refused}
+use Rattle.answers.specs.Answer.{fault_number, axis_number}
+use Rattle.separation.specs.Answer.{number_of}
+use Rattle.parts.specs.Part.{walk_numbers}
+use Rattle.part_questions.specs.Walk.{state_of}
+use Rattle.answers.specs.Answer.{face_values, length_values, width_values, box_values, yes_values, found_values, distance_values}
+use Rattle.answers.specs.Answer.{beyond_values, lane_values, tangents_values, meeting_values}
+use Rattle.polygon.specs.declared.point.Point.{Point}
+use Rattle.direction.specs.declared.Face.{Face}
+use Rattle.measure.specs.declared.Length.{Length}
+use Rattle.measure.specs.declared.Width.{Width}
+use Rattle.separation.specs.declared.answer.Relation.{Relation}
 use Rattle.clearance.specs.declared.measured.Distance.{Distance}
 use Rattle.admission.specs.declared.answer.Refusal.{Refusal}
-use Rattle.answers.specs.declared.Unread.{Unread}
-use Rattle.admission.specs.declared.answer.Answer.{Answer}
-use Rattle.part_questions.specs.declared.answer.Begun.{Begun}
+use Rattle.part_questions.specs.declared.walk.Walk.{Walk}
 use Rattle.part_questions.specs.declared.answer.Part.{Part}
-use Rattle.answers.specs.declared.Furthest.{Furthest}
-use Rattle.answers.specs.declared.Area.{Area}
-use Rattle.answers.specs.declared.Gap.{Gap}
-use Rattle.answers.specs.declared.Length.{Length}
-use Rattle.answers.specs.declared.Width.{Width}
 use Rattle.answers.specs.declared.LeastBox.{LeastBox}
-use Rattle.answers.specs.declared.Relation.{Relation}
-use Rattle.answers.specs.declared.Inside.{Inside}
-use Rattle.answers.specs.declared.Offer.{Offer}
-use Rattle.answers.specs.declared.Separator.{Separator}
-use Rattle.answers.specs.declared.Excess.{Excess}
-use Rattle.answers.specs.declared.Contact.{Contact}
-use Rattle.answers.specs.declared.Passage.{Passage}
-use Rattle.answers.specs.declared.Clearance.{Clearance}
+use Rattle.answers.specs.declared.Beyond.{Beyond}
 use Rattle.answers.specs.declared.Nearest.{Nearest}
+use Rattle.answers.specs.declared.Gap.{Gap}
+use Rattle.answers.specs.declared.Meeting.{Meeting}
+use Rattle.answers.specs.declared.Drive.{Drive}
+use Rattle.answers.specs.declared.Lane.{Lane}
 use Rattle.answers.specs.declared.Tangents.{Tangents}
-use Rattle.answers.specs.declared.Tablet.{Tablet}
+use Rattle.answers.specs.declared.Corner.{Corner}
+use Rattle.answers.specs.declared.Unread.{Unread}
 use Rattle.answers.specs.declared.Addition.{Addition}
 use Rattle.answers.specs.declared.Entry.{Entry}
-use Rattle.answers.specs.declared.Drive.{Drive}
-use Rattle.answers.specs.declared.Greatest.{Greatest}
-use Rattle.answers.specs.Answer.{of_drive, of_greatest}
+use Rattle.answers.specs.Answer.{Told, of_drive, of_greatest}
 use Rattle.answers.specs.Answer.{of_area, of_box, of_nearest, of_gap, of_contact, of_entry}
 use Rattle.answers.specs.Answer.{of_refusal, of_unread, of_answer, of_furthest, of_length, of_width, of_relation}
 use Rattle.answers.specs.Answer.{of_inside, of_offer, of_separator, of_clearance, of_excess, of_passage, of_tangents, of_tablet}
@@ -58,126 +62,110 @@ refusal-room Refusal.NoRecord = (lit< tt, lit≤ tt)
 refusal-room Refusal.TooFew = (lit< tt, lit≤ tt)
 
 pub unread-room : (x : Unread) → Room (of_unread x)
-unread-room (Unread.NotFinite p) = (lit< tt, lit≤ tt)
-unread-room (Unread.NotWhole p) = (lit< tt, lit≤ tt)
-unread-room (Unread.Far p) = (lit< tt, lit≤ tt)
+unread-room x = go x.fault
+  where
+    go : (f : Fault) → Room (refused (fault_number f) (axis_number x.axis ∷ []))
+    go Fault.NotFinite = (lit< tt, lit≤ tt)
+    go Fault.NotWhole = (lit< tt, lit≤ tt)
+    go Fault.Far = (lit< tt, lit≤ tt)
 
-pub answer-room : (x : Answer) → Room (of_answer x)
-answer-room (Answer.Corners n f) = lit≤ tt
-answer-room (Answer.No r) = refusal-room r
+-- ---- answers with their floor
 
-pub begun-room : (x : Begun) → Room (of_begun x)
-begun-room (Begun.At w f) = lit≤ tt
-begun-room (Begun.No r) = refusal-room r
+pub floor-room : {T : Type 0} (values : T → List ℤ) → ((x : T) → length (values x) ≤ 8) → (r : Told T) → Room (on_floor values r)
+floor-room values few (Ok a) =
+    let some = few a.answer in omega (arith, length-append (values a.answer) (pos a.floor ∷ []))
+floor-room values few (Err r) = refusal-room r
 
-pub part_room : (x : Part) → Room (of_part x)
-part_room (Part.Corners n w f) = lit≤ tt
-part_room (Part.No r) = refusal-room r
+found-few : {T : Type 0} (values : T → List ℤ) → ((x : T) → length (values x) ≤ 7) → (o : Option T) → length (found_values values o) ≤ 8
+found-few values few None = lit≤ tt
+found-few values few (Some x) = let some = few x in omega arith
 
-pub furthest-room : (x : Furthest) → Room (of_furthest x)
-furthest-room (Furthest.At p q v f) = lit≤ tt
-furthest-room (Furthest.No r) = refusal-room r
+pub distance-few : (o : Option Distance) → length (distance_values o) ≤ 6
+distance-few None = lit≤ tt
+distance-few (Some (Distance.Corners i j s w)) = lit≤ tt
+distance-few (Some (Distance.OnSecond c e t q w)) = lit≤ tt
+distance-few (Some (Distance.OnFirst c e t q w)) = lit≤ tt
 
-pub length-room : (x : Length) → Room (of_length x)
-length-room (Length.Between q i j f) = lit≤ tt
-length-room (Length.No r) = refusal-room r
+yes-few : (b : Bool) → length (yes_values b) ≤ 8
+yes-few b = lit≤ tt
 
-pub area-room : (x : Area) → Room (of_area x)
-area-room (Area.Twice t f) = lit≤ tt
-area-room (Area.No r) = refusal-room r
+beyond-few : (o : Option Beyond) → length (beyond_values o) ≤ 8
+beyond-few None = lit≤ tt
+beyond-few (Some (Beyond.Corners c j d u)) = lit≤ tt
+beyond-few (Some (Beyond.Edge c e t q u)) = lit≤ tt
 
--- with its floor, a distance leaves room for two names
-pub distance-room : (d : Distance) (floor : ℕ) → length (values_of d ++ (pos floor ∷ [])) ≤ 7
-distance-room (Distance.Corners i j s w) floor = lit≤ tt
-distance-room (Distance.OnSecond c e t q w) floor = lit≤ tt
-distance-room (Distance.OnFirst c e t q w) floor = lit≤ tt
+pub answer-room : (x : Told ℕ) → Room (of_answer x)
+answer-room x = floor-room (λ n. pos n ∷ []) (λ n. lit≤ tt) x
 
-pub nearest-room : (x : Nearest) → Room (of_nearest x)
-nearest-room (Nearest.Meets n floor) = lit≤ tt
-nearest-room (Nearest.Apart n (Distance.Corners i j s w) floor) = lit≤ tt
-nearest-room (Nearest.Apart n (Distance.OnSecond c e t q w) floor) = lit≤ tt
-nearest-room (Nearest.Apart n (Distance.OnFirst c e t q w) floor) = lit≤ tt
-nearest-room (Nearest.No r) = refusal-room r
+pub begun-room : (x : Told Walk) → Room (of_begun x)
+begun-room x = floor-room (λ w. walk_numbers (state_of w)) (λ w. lit≤ tt) x
 
-pub gap-room : (x : Gap) → Room (of_gap x)
-gap-room (Gap.Meets n m floor) = lit≤ tt
-gap-room (Gap.Apart n m (Distance.Corners i j s w) floor) = lit≤ tt
-gap-room (Gap.Apart n m (Distance.OnSecond c e t q w) floor) = lit≤ tt
-gap-room (Gap.Apart n m (Distance.OnFirst c e t q w) floor) = lit≤ tt
-gap-room (Gap.No r) = refusal-room r
+pub part_room : (x : Told Part) → Room (of_part x)
+part_room x = floor-room (λ p. pos p.count ∷ walk_numbers (state_of p.walk)) (λ p. lit≤ tt) x
 
-pub width_room : (x : Width) → Room (of_width x)
-width_room (Width.Across e c t q w f) = lit≤ tt
-width_room (Width.No r) = refusal-room r
+pub furthest-room : (x : Told Face) → Room (of_furthest x)
+furthest-room x = floor-room face_values (λ f. lit≤ tt) x
 
-pub box-room : (x : LeastBox) → Room (of_box x)
-box-room (LeastBox.At e t s q f) = lit≤ tt
-box-room (LeastBox.No r) = refusal-room r
+pub length-room : (x : Told Length) → Room (of_length x)
+length-room x = floor-room length_values (λ l. lit≤ tt) x
 
-pub relation-room : (x : Relation) → Room (of_relation x)
-relation-room (Relation.Apart f) = lit≤ tt
-relation-room (Relation.Touching f) = lit≤ tt
-relation-room (Relation.Overlapping f) = lit≤ tt
-relation-room (Relation.No r) = refusal-room r
+pub area-room : (x : Told ℕ) → Room (of_area x)
+area-room x = floor-room (λ twice. pos twice ∷ []) (λ a. lit≤ tt) x
 
-pub inside-room : (x : Inside) → Room (of_inside x)
-inside-room (Inside.Is b f) = lit≤ tt
-inside-room (Inside.No r) = refusal-room r
+pub width_room : (x : Told Width) → Room (of_width x)
+width_room x = floor-room width_values (λ w. lit≤ tt) x
 
-pub offer-room : (x : Offer) → Room (of_offer x)
-offer-room (Offer.Is b f) = lit≤ tt
-offer-room (Offer.No r) = refusal-room r
+pub box-room : (x : Told LeastBox) → Room (of_box x)
+box-room x = floor-room box_values (λ b. lit≤ tt) x
 
-pub separator-room : (x : Separator) → Room (of_separator x)
-separator-room (Separator.Direction u v f) = lit≤ tt
-separator-room (Separator.Nothing f) = lit≤ tt
-separator-room (Separator.No r) = refusal-room r
+pub relation-room : (x : Told Relation) → Room (of_relation x)
+relation-room x = floor-room (λ x. number_of x ∷ []) (λ x. lit≤ tt) x
 
-pub passage-room : (x : Passage) → Room (of_passage x)
-passage-room (Passage.Blocked f) = lit≤ tt
-passage-room (Passage.Free u v low high w f) = lit≤ tt
-passage-room (Passage.No r) = refusal-room r
+pub inside-room : (x : Told Bool) → Room (of_inside x)
+inside-room x = floor-room yes_values yes-few x
 
-pub contact-room : (x : Contact) → Room (of_contact x)
-contact-room (Contact.Never f) = lit≤ tt
-contact-room (Contact.At n d safe f) = lit≤ tt
-contact-room (Contact.No r) = refusal-room r
+pub offer-room : (x : Told Bool) → Room (of_offer x)
+offer-room x = floor-room yes_values yes-few x
 
-pub clearance-room : (x : Clearance) → Room (of_clearance x)
-clearance-room (Clearance.None floor) = lit≤ tt
-clearance-room (Clearance.Apart (Distance.Corners i j s w) floor) = lit≤ tt
-clearance-room (Clearance.Apart (Distance.OnSecond c e t q w) floor) = lit≤ tt
-clearance-room (Clearance.Apart (Distance.OnFirst c e t q w) floor) = lit≤ tt
-clearance-room (Clearance.No r) = refusal-room r
+pub separator-room : (x : Told (Option Point)) → Room (of_separator x)
+separator-room x = floor-room (found_values (λ d. d.x ∷ d.y ∷ [])) (found-few _ (λ d. lit≤ tt)) x
 
-pub excess-room : (x : Excess) → Room (of_excess x)
-excess-room (Excess.Inside f) = lit≤ tt
-excess-room (Excess.Corners c j d u f) = lit≤ tt
-excess-room (Excess.Edge c e t q u f) = lit≤ tt
-excess-room (Excess.No r) = refusal-room r
+pub clearance-room : (x : Told (Option Distance)) → Room (of_clearance x)
+clearance-room x = floor-room distance_values (λ o. let few = distance-few o in omega arith) x
 
-pub tangents-room : (x : Tangents) → Room (of_tangents x)
-tangents-room (Tangents.Lines p q r s f) = lit≤ tt
-tangents-room (Tangents.No r) = refusal-room r
+pub nearest-room : (x : Told Nearest) → Room (of_nearest x)
+nearest-room x = floor-room (λ n. pos n.name ∷ distance_values n.distance) (λ n. let few = distance-few n.distance in omega arith) x
 
-pub tablet-room : (x : Tablet) → Room (of_tablet x).reply
-tablet-room (Tablet.Corner s x y) = lit≤ tt
-tablet-room (Tablet.No r) = unread-room r
+pub gap-room : (x : Told Gap) → Room (of_gap x)
+gap-room x = floor-room (λ g. pos g.name ∷ pos g.other ∷ distance_values g.distance)
+    (λ g. let few = distance-few g.distance in omega arith) x
 
-pub addition-room : (x : Addition) → Room (of_addition x)
-addition-room Addition.Finished = lit≤ tt
-addition-room Addition.Cut = lit≤ tt
-addition-room (Addition.No r) = refusal-room r
+pub excess-room : (x : Told (Option Beyond)) → Room (of_excess x)
+excess-room x = floor-room beyond_values beyond-few x
 
-pub entry-room : (x : Entry) → Room (of_entry x)
-entry-room (Entry.Corners n name f) = lit≤ tt
-entry-room (Entry.No r) = refusal-room r
+pub passage-room : (x : Told (Option Lane)) → Room (of_passage x)
+passage-room x = floor-room (found_values lane_values) (found-few _ (λ l. lit≤ tt)) x
 
-pub drive-room : (x : Drive) → Room (of_drive x)
-drive-room (Drive.Never f) = lit≤ tt
-drive-room (Drive.At name n d s f) = lit≤ tt
-drive-room (Drive.No r) = refusal-room r
+pub contact-room : (x : Told (Option Meeting)) → Room (of_contact x)
+contact-room x = floor-room (found_values meeting_values) (found-few _ (λ m. lit≤ tt)) x
 
-pub greatest-room : (x : Greatest) → Room (of_greatest x)
-greatest-room (Greatest.At q i j f) = lit≤ tt
-greatest-room (Greatest.No r) = refusal-room r
+pub tangents-room : (x : Told Tangents) → Room (of_tangents x)
+tangents-room x = floor-room tangents_values (λ t. lit≤ tt) x
+
+pub entry-room : (x : Told Entry) → Room (of_entry x)
+entry-room x = floor-room (λ e. pos e.count ∷ pos e.name ∷ []) (λ e. lit≤ tt) x
+
+pub drive-room : (x : Told (Option Drive)) → Room (of_drive x)
+drive-room x = floor-room (found_values (λ d. pos d.name ∷ meeting_values d.meeting)) (found-few _ (λ d. lit≤ tt)) x
+
+pub greatest-room : (x : Told Length) → Room (of_greatest x)
+greatest-room x = floor-room length_values (λ l. lit≤ tt) x
+
+pub tablet-room : (x : Result Corner Unread) → Room (of_tablet x).reply
+tablet-room (Ok c) = lit≤ tt
+tablet-room (Err u) = unread-room u
+
+pub addition-room : (x : Result Addition Refusal) → Room (of_addition x)
+addition-room (Ok Addition.Finished) = lit≤ tt
+addition-room (Ok Addition.Cut) = lit≤ tt
+addition-room (Err r) = refusal-room r

@@ -36,16 +36,18 @@ open_count-requires c = (counted _ (row-1 c)).0
 
 pub returns-then-exceeds_points : goal.returns-then-exceeds_points
 returns-then-exceeds_points c = turns-away
-    (refuses (later (row-1 c.before.before.before) (here (sym (told-2 c.before) ∙ c.if-exceeds_points.true))))
+    (refuses (later (row-1 (goal.at.returns-then-exceeds_points c).Else-bad_count) (here (sym (told-2 c.before)
+    ∙ c.if-exceeds_points.true))))
 
 pub returns-then-some_outside : goal.returns-then-some_outside
 returns-then-some_outside c =
-    turns-away (refuses (later (row-1 c.before.before.before.before.before) (later (row-2 c.before.before)
+    turns-away (refuses (later (row-1 (goal.at.returns-then-some_outside c).Else-bad_count) (later (row-2
+    (goal.at.returns-then-some_outside c).Else-exceeds_points)
     (here (sym c.some_outside.ensures ∙ c.if-some_outside.true)))))
 
 pub returns : goal.returns
 returns c =
     passes (accepted→ring _ (
-      row-1 c.before.before.before.before.before,
-      (row-2 c.before.before, (sym c.some_outside.ensures ∙ c.if-some_outside.false, tt)),
+      row-1 (goal.at.returns c).Else-bad_count,
+      (row-2 (goal.at.returns c).Else-exceeds_points, (sym c.some_outside.ensures ∙ c.if-some_outside.false, tt)),
     ))

@@ -1,11 +1,8 @@
 use mathlib.Core.List.{map}
-use Prim.Native.Nat.{◌*◌, ◌-◌, ◌≤◌}
+use Prim.Native.Nat.{◌*◌}
 use Rattle.plane.specs.Point.{points, numbers, corner}
 use Rattle.plane.proofs.theory.lists.Filled.{Filled}
 use Rattle.ring.proofs.write.Given as goal
 
 abbrev pub invariant-loop-k : goal.invariant-loop-k
-invariant-loop-k l = Filled l.initial.out (numbers (map (corner (points l.list)) l.places)) (2 * l.k) l.out × (l.k ≤ l.n)
-
-abbrev pub decreases-loop-k : goal.decreases-loop-k
-decreases-loop-k l = l.n - l.k
+invariant-loop-k l = Filled l.initial.out (numbers (map (corner (points l.list)) l.places)) (2 * l.k) l.out

@@ -1,87 +1,85 @@
 -- `find` meets its contract: what the walk saw decides, but for a point or a segment.
 use mathlib.Core.Path.{◌≡◌, sym, ◌∙◌, ap, subst}
-use mathlib.Core.Bool.{false}
-use Prim.Native.Nat.{◌<◌}
+use mathlib.Core.List.{List}
+use Rattle.plane.specs.Primitive.{primitive}
+use mathlib.Core.Bool.{Bool, false, true≢false}
+use Prim.Native.Nat.{ℕ, ◌≤◌, ◌<◌, ◌^◌}
 use native.Mathlib.Omega.{arith}
+use borrow.Author.Tests.{lt-ltb}
+use lib.IntN.{ℤ}
 use lib.ListN.{length}
-use Rattle.plane.specs.Point.{points, opposite}
-use Rattle.plane.specs.Search.{some}
+use Rattle.plane.specs.Point.{Point, points, corner, opposite}
+use Rattle.plane.specs.Refusal.{Valid}
+use Rattle.plane.specs.Forms.{NonZero}
 use Rattle.plane.specs.VectorSum.{vector_sum}
-use Rattle.polygon.specs.Point.{at}
+use Rattle.plane.proofs.theory.direction.Rows.{direction-some}
+use Rattle.polygon.specs.Point.{at, Small}
+use Rattle.polygon.specs.theory.Small.{small-wide}
 use Rattle.calipers.specs.Image.{image}
+use Rattle.separation.specs.declared.around.Seen.TheVariants.{Round}
 use Rattle.separation.specs.Outward.{Outward}
-use Rattle.separation.specs.Around.{right_of}
+use Rattle.separation.specs.Around.{origin_on, Saw}
 use Rattle.separation.specs.theory.Outward.{begun-away}
 use Rattle.separation.specs.theory.Image.{image-begun}
-use Rattle.separator.specs.Separator.{Finds}
+use Rattle.separator.specs.Separator.{Separates}
+use Rattle.separator.specs.theory.Direction.{good-small}
 use Rattle.separator.specs.theory.Exists.{outside-few, not-apart-on, not-apart-many, away-good, away-witness}
 use Rattle.separator.proofs.find.Goals as goal
-use Rattle.separator.proofs.find.Goals.{After-opposite, Else-sides, Else-sides-gt2, Then-sides}
+use Rattle.separator.proofs.find.Goals.{After-opposite, In-Outside, In-Round, then-count-gt2, else-count-gt2}
 
-pub top-top-requires : goal.top-top-requires
-top-top-requires c = c.requires.1.shape.some
+module _ (a b : List ℤ) (u : Valid a) (v : Valid b) where
+  -- the corners that the walk visits
+  abbrev D : List Point
+  D = vector_sum (points a) (points (image b))
 
-pub pass-sides-requires : goal.pass-sides-requires
-pass-sides-requires c = (c.requires.0, c.requires.1, c.top-top.ensures)
+  -- a direction that leads away from them
+  module _ {d : Point} (w : Outward D d) where
+    fit : Small (2 ^ 22) d × NonZero d
+    fit = let good = away-good a b u v d w in (small-wide (good-small _ good), direction-some _ good)
 
--- ---- an edge has the origin to its right
-away : (c : Then-sides) →
-    Outward (vector_sum (points c.args.a.now) (points (image c.args.b.now))) (at c.pass-sides.result.normal)
-away c = c.pass-sides.ensures.passed.normal-is c.if-sides.true
+    found : {e : Point} → e ≡ primitive d → Separates (points a) (points b) e
+    found h = subst (Separates _ _) (sym h) (away-witness a b u v d w)
 
-pub named-requires : goal.named-requires
-named-requires c =
-    away-good c.args.a.now c.args.b.now c.requires.0 c.requires.1 _ (away c.before)
+  -- no edge has the origin to its right: the opposite of the first corner leads away from a point or a segment that it is not on
+  opposed : {count : ℕ} {rim : Bool} → Saw D (Round count rim) → count ≤ 2 → origin_on D ≡ false → {p d : Point} → p ≡ corner D 0
+      → d ≡ opposite p → Outward D d
+  opposed (none, all, _) few off p d =
+      let short : length D < 3 = omega (arith, all, few) in
+      subst (Outward D) (sym (d ∙ ap opposite p)) (begun-away a (image b) (image-begun a b u v) none (outside-few D none short off))
 
-pub returns-then-sides : goal.returns-then-sides
-returns-then-sides c =
-    subst (Finds _ _) (sym c.named.ensures) (away-witness _ _ c.requires.0 c.requires.1 _ (away c.before.before))
+away : (c : In-Outside) →
+    Outward (vector_sum (points c.args.a.now) (points (image c.args.b.now))) (at c.in-Outside.normal)
+away c = (subst (Saw _) c.in-Outside.is c.pass.ensures.passed).1
 
--- ---- no edge has
-none : (c : Else-sides) →
-    let D = vector_sum (points c.args.a.now) (points (image c.args.b.now)) in
-    (some (right_of D) (length D) ≡ false) × (c.pass-sides.result.count ≡ length D)
-none c =
-    let seen = c.pass-sides.ensures.passed in
-    (sym seen.outside-is ∙ c.if-sides.false, seen.count-is c.if-sides.false)
+saw : (c : In-Round) →
+    Saw (vector_sum (points c.args.a.now) (points (image c.args.b.now))) (Round c.in-Round.count c.in-Round.rim)
+saw c = subst (Saw _) c.in-Round.is c.pass.ensures.passed
 
-pub returns-then-sides-gt2 : goal.returns-then-sides-gt2
-returns-then-sides-gt2 c =
-    not-apart-many _ _ c.requires.0 c.requires.1 (none c.before.before).0 (omega (arith, (none c.before.before).1, c.if-sides-gt2.true))
-
-pub is_on-requires : goal.is_on-requires
-is_on-requires c =
-    (c.requires.0, c.requires.1, c.top-top.ensures)
-
-few : (c : Else-sides-gt2) →
-    length (vector_sum (points c.args.a.now) (points (image c.args.b.now))) < 3
-few c = omega (arith, (none c.before.before).1, c.if-sides-gt2.false)
-
-pub returns-then-is_on : goal.returns-then-is_on
-returns-then-is_on c =
-    not-apart-on _ _ c.requires.0 c.requires.1 (none c.before.before.before.before).0 (few c.before.before)
-    (sym c.is_on.ensures ∙ c.if-is_on.true)
-
-pub first-requires : goal.first-requires
-first-requires c =
-    (c.requires.0, c.requires.1, c.top-top.ensures)
-
-pub opposite-requires : goal.opposite-requires
-opposite-requires c = c.first.ensures.small
-
--- the opposite of the first corner leads away
-opposed : (c : After-opposite) →
+leads : (c : After-opposite) →
     Outward (vector_sum (points c.args.a.now) (points (image c.args.b.now))) (at c.opposite.result)
-opposed c =
-    subst (Outward _) (sym (c.opposite.ensures ∙ ap opposite c.first.ensures.result_value))
-    (begun-away _ _ (image-begun _ _ c.requires.0 c.requires.1) (none c.before.before.before.before.before.before).0
-    (outside-few _ (none c.before.before.before.before.before.before).0 (few c.before.before.before.before)
-    (sym c.is_on.ensures ∙ c.if-is_on.false)))
+leads c = elim c.if-count-gt2.branch [
+  | then-count-gt2 w ↦ absurd (true≢false (sym (lt-ltb _ _ w.if-count-gt2.true) ∙ sym w.value-is ∙ c.if-is_on.false))
+  | else-count-gt2 w ↦ opposed _ _ c.requires.0 c.requires.1 (saw c.before.before.before.before.before)
+      w.if-count-gt2.false (sym (w.value-is ∙ w.is_on.ensures) ∙ c.if-is_on.false) c.first.ensures.result_value c.opposite.ensures
+]
 
-pub named-requires-2 : goal.named-requires-2
-named-requires-2 c =
-    away-good c.args.a.now c.args.b.now c.requires.0 c.requires.1 _ (opposed c)
+pub primitive-requires : goal.primitive-requires
+primitive-requires c = fit _ _ c.requires.0 c.requires.1 (away c)
 
-pub returns : goal.returns
-returns c =
-    subst (Finds _ _) (sym c.named-2.ensures) (away-witness _ _ c.requires.0 c.requires.1 _ (opposed c.before))
+pub primitive-requires-in-Round-2 : goal.primitive-requires-in-Round-2
+primitive-requires-in-Round-2 c = fit _ _ c.requires.0 c.requires.1 (leads c)
+
+pub returns-in-Outside : goal.returns-in-Outside
+returns-in-Outside c = found _ _ c.requires.0 c.requires.1 (away c.before) c.primitive.ensures
+
+pub returns-in-Round : goal.returns-in-Round
+returns-in-Round c =
+    let (none, all, _) = saw c.before.before in
+    elim c.if-count-gt2.branch [
+      | then-count-gt2 w ↦ not-apart-many _ _ c.requires.0 c.requires.1 none (omega (arith, all, w.if-count-gt2.true))
+      | else-count-gt2 w ↦ not-apart-on _ _ c.requires.0 c.requires.1 none (omega (arith, all, w.if-count-gt2.false))
+          (sym (w.value-is ∙ w.is_on.ensures) ∙ c.if-is_on.true)
+    ]
+
+pub returns-in-Round-2 : goal.returns-in-Round-2
+returns-in-Round-2 c = found _ _ c.requires.0 c.requires.1 (leads c.before) c.primitive-in-Round-2.ensures

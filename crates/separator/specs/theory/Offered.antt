@@ -5,7 +5,7 @@
 --     found-refused, refused-found      a search is refused exactly by the rows of the two shapes
 --     found-answered, answered-found    and else answered
 --     found-apart, found_none, none_found, found-direction     what it replies of shapes on one floor
-use Rattle.std.specs.Prelude.{◌≡◌, refl, Bool, true, false, cond, List, [], ◌∷◌, ◌++◌, ◌↔◌, ℕ, ℤ, pos}
+use Rattle.std.specs.Prelude.{◌≡◌, refl, Option, Some, None, Bool, true, false, cond, List, [], ◌∷◌, ◌++◌, ◌↔◌, ℕ, ℤ, pos}
 use Rattle.std.proofs.Common.{sym, ◌∙◌, ap, subst, arith}
 use Rattle.plane.specs.Point.{Point, point}
 use Rattle.plane.specs.Reply.{Reply, answered, refused, Row, NoneApply, First}
@@ -17,8 +17,8 @@ use Rattle.plane.specs.Question.{Question, values, reply, ask_offer}
 use Rattle.plane.proofs.theory.lists.Sought.{true-not-false}
 use Rattle.plane.proofs.theory.refusals.Asked.{asked-given, asked-refused, asked-none, asked-answered, asked-values, asked-shapes}
 use Rattle.plane.proofs.theory.refusals.Asked.{shapes-given, rest-none}
-use Rattle.separator.specs.declared.Separator.{Separator}
-use Rattle.separator.specs.declared.Separator.TheVariants.{Direction, Nothing}
+use Rattle.polygon.specs.declared.point.Point.{Point as Code-as-Point}
+use Rattle.polygon.specs.Point.{at}
 use Rattle.separator.specs.Separator.{Separates, Finds, separator_numbers, ask_separator, SeparatorBetween}
 use Rattle.separator.specs.theory.Below.{below→all, all→below, below→apart}
 use Rattle.separator.specs.theory.Exists.{witness-exists}
@@ -106,12 +106,12 @@ module _ (a b : Floored) where
         same : Same a b
         same = asked-shapes (ask_separator a b f.found) _ told
 
-        go : (x : Separator) → Finds A B x → pos 1 ∷ u ∷ v ∷ floor ∷ [] ≡ separator_numbers x ++ (pos a.floor ∷ [])
+        go : (x : Option Code-as-Point) → Finds A B x → pos 1 ∷ u ∷ v ∷ floor ∷ [] ≡ separator_numbers x ++ (pos a.floor ∷ [])
             → Separates A B (point u v)
-        go (Direction s t) w e =
-            let left : s ≡ u = cc e in
-            let right : t ≡ v = cc e in subst (λ y. Separates A B (point u y)) right (subst (λ x. Separates A B (point x t)) left w)
-        go Nothing w e = absurd (let z : ◌≡◌ {A = ℕ} 0 1 = cc e in let c : ⊥ = omega arith in c)
+        go (Some d) w e =
+            let left : d.x ≡ u = cc e in
+            let right : d.y ≡ v = cc e in subst (λ y. Separates A B (point u y)) right (subst (λ x. Separates A B (point x d.y)) left w)
+        go None w e = absurd (let z : ◌≡◌ {A = ℕ} 0 1 = cc e in let c : ⊥ = omega arith in c)
 
     module _ (s : Same a b) where
       searched : r ≡ answered (separator_numbers f.found ++ (pos a.floor ∷ []))
@@ -121,19 +121,19 @@ module _ (a b : Floored) where
           → (u v : ℤ) × (r ≡ answered (pos 1 ∷ u ∷ v ∷ pos a.floor ∷ [])) × Offered (point u v) true
       found-apart h = go f.found searched (f.found-is (rest-none q s tt))
         where
-          go : (x : Separator) → r ≡ answered (separator_numbers x ++ (pos a.floor ∷ [])) → Finds A B x
+          go : (x : Option Code-as-Point) → r ≡ answered (separator_numbers x ++ (pos a.floor ∷ [])) → Finds A B x
               → (u v : ℤ) × (r ≡ answered (pos 1 ∷ u ∷ v ∷ pos a.floor ∷ [])) × Offered (point u v) true
-          go (Direction u v) e w = (u, v, e, witness-accepted (point u v) s w)
-          go Nothing e n = absurd (true-not-false h n)
+          go (Some d) e w = (d.x, d.y, e, witness-accepted (at d) s w)
+          go None e n = absurd (true-not-false h n)
 
       pub found_none : apart A B ≡ false → r ≡ answered (pos 0 ∷ pos a.floor ∷ [])
       found_none h = go f.found searched (f.found-is (rest-none q s tt))
         where
-          go : (x : Separator) → r ≡ answered (separator_numbers x ++ (pos a.floor ∷ [])) → Finds A B x
+          go : (x : Option Code-as-Point) → r ≡ answered (separator_numbers x ++ (pos a.floor ∷ [])) → Finds A B x
               → r ≡ answered (pos 0 ∷ pos a.floor ∷ [])
-          go (Direction u v) e w = absurd (true-not-false
-              (below→apart (point u v) A B s.first-valid.shape.some s.second-valid.shape.some w.is_below) h)
-          go Nothing e n = e
+          go (Some d) e w = absurd (true-not-false
+              (below→apart (at d) A B s.first-valid.shape.some s.second-valid.shape.some w.is_below) h)
+          go None e n = e
 
       pub none_found : r ≡ answered (pos 0 ∷ pos a.floor ∷ []) → apart A B ≡ false
       none_found h = refuted (apart A B) (λ t. let (u, v, e, w) = found-apart t in

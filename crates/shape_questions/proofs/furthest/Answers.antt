@@ -3,29 +3,27 @@ use mathlib.Core.Path.{◌≡◌, refl, sym, ◌∙◌, ap, ap₂, subst}
 use mathlib.Core.List.{[], ◌∷◌}
 use Prim.Native.Nat.{ℕ}
 use lib.IntN.{ℤ, pos}
-use mir.Syntax.{w32, w64}
+use mir.Syntax.{w32}
 use mir.Val.{to_z, of_z}
 use mir.Facts.{to_z-of_z}
-use Rattle.integer.specs.Machine.{known, machine-read, machine-is}
 use Rattle.integer.specs.Bound.{within-widen}
 use Rattle.plane.specs.Limits.{part_small}
 use Rattle.plane.specs.Point.{Point, point, points}
 use Rattle.plane.specs.Forms.{NonZero}
 use Rattle.plane.specs.Reply.{NoneApply}
-use Rattle.plane.specs.Refusal.{Valid}
 use Rattle.plane.specs.Direction.{support}
 use Rattle.plane.specs.Face.{face_first, face_last}
 use Rattle.plane.specs.Furthest.{direction_rows}
 use Rattle.plane.specs.Floor.{on}
 use Rattle.plane.specs.Question.{Question, ask_furthest}
-use Rattle.plane.proofs.theory.support.Bounds.{support-size}
 use Rattle.plane.proofs.theory.direction.Rows.{direction-near, direction-some}
 use Rattle.polygon.specs.Point.{Small}
 use Rattle.polygon.specs.theory.Small.{small-wide}
 use Rattle.admission.specs.Admission.{Judged}
+use Rattle.admission.specs.theory.Judged.{held, refusal-of, handed-on}
 use Rattle.admission.specs.theory.Door.{shapes-refused, rest-refused, all-answered}
 use Rattle.shape_questions.proofs.furthest.Goals as goal
-use Rattle.shape_questions.proofs.furthest.Goals.{After-admit_direction, In_default, In_default-admit_direction, Start}
+use Rattle.shape_questions.proofs.furthest.Goals.{After-admit_direction, In_ok-admit_direction, Start}
 
 -- the direction, and the question
 abbrev towards : Start → Point
@@ -33,10 +31,6 @@ towards c = point c.args.u c.args.v
 
 abbrev asked : Start → Question
 asked c = ask_furthest (on c.args.list.now c.args.floor) (towards c)
-
--- past the judging the list is a shape
-valid : (c : In_default) → Valid c.args.list.now
-valid c = c.admit.ensures.valid c.in_default.is
 
 -- the direction, read back from its bits
 direction-is : (c : Start) → point (to_z w32 (of_z w32 c.args.u)) (to_z w32 (of_z w32 c.args.v)) ≡ towards c
@@ -50,22 +44,24 @@ judged-direction c =
     (direction-is (goal.at.After-admit_direction c).Start) c.admit_direction.ensures
 
 -- past it, neither row applies
-passed : (c : In_default-admit_direction) → NoneApply (direction_rows (towards (goal.at.In_default-admit_direction c).Start))
-passed c = (judged-direction (goal.at.In_default-admit_direction c).After-admit_direction).valid c.in_default-admit_direction.is
+passed : (c : In_ok-admit_direction) → NoneApply (direction_rows (towards (goal.at.In_ok-admit_direction c).Start))
+passed c = (judged-direction (goal.at.In_ok-admit_direction c).After-admit_direction).valid c.in_ok-admit_direction.was
 
-pub returns-in-No : goal.returns-in-No
-returns-in-No c = (shapes-refused (asked (goal.at.returns-in-No c).Start)
-    (c.admit.ensures.no _ c.in-No.is)).0
+pub returns-in_err-admit : goal.returns-in_err-admit
+returns-in_err-admit c =
+    rw (handed-on _ _ c.from_residual.ensures.1)
+    (shapes-refused (asked (goal.at.returns-in_err-admit c).Start) (refusal-of c.in_err-admit.ensures)).0
 
-pub returns-in-No-admit_direction : goal.returns-in-No-admit_direction
-returns-in-No-admit_direction c =
-    (rest-refused (asked (goal.at.returns-in-No-admit_direction c).Start) (valid (goal.at.returns-in-No-admit_direction c).In_default)
-    ((judged-direction (goal.at.returns-in-No-admit_direction c).After-admit_direction).no _ c.in-No-admit_direction.is)).0
+pub returns-in_err-admit_direction : goal.returns-in_err-admit_direction
+returns-in_err-admit_direction c =
+    rw (handed-on _ _ c.from_residual-in_err-admit_direction.ensures.1)
+    (rest-refused (asked (goal.at.returns-in_err-admit_direction c).Start) (held c.in_ok-admit.ensures)
+    ((judged-direction (goal.at.returns-in_err-admit_direction c).After-admit_direction).no _ c.in_err-admit_direction.was)).0
 
-pub face_towards-face-requires : goal.face_towards-face-requires
-face_towards-face-requires c =
-    let direction = sym (direction-is (goal.at.face_towards-face-requires c).Start) in
-    let v = valid (goal.at.face_towards-face-requires c).In_default in
+pub face_towards-requires : goal.face_towards-requires
+face_towards-requires c =
+    let direction = sym (direction-is (goal.at.face_towards-requires c).Start) in
+    let v = held c.in_ok-admit.ensures in
     let good = (passed c).0 in
     let near = direction-near _ good in
     let small : Small 2097152 _ = record { small-x = within-widen part_small near.0; small-y = within-widen part_small near.1 } in
@@ -78,13 +74,8 @@ told e f g = rw (e, f, g) refl
 pub returns : goal.returns
 returns c =
     let ps = points c.args.list.now in
-    let face = c.face_towards-face.ensures in
-    let first = face.first_value ∙ ap (λ (d : Point). face_first d ps) (direction-is (goal.at.returns c).Start) in
-    let last = face.last_value ∙ ap (λ (d : Point). face_last d ps) (direction-is (goal.at.returns c).Start) in
-    let good = passed (goal.at.returns c).In_default-admit_direction in
-    let v = valid (goal.at.returns c).In_default in
-    let near = direction-near _ good.0 in
-    let small = known (face.value_value ∙ ap (λ (d : Point). support d ps) (direction-is (goal.at.returns c).Start))
-    (support-size _ v.in_range near.0 near.1 v.shape.some) in
-    let value = machine-is (machine-read w64 _ small) tt in
-    all-answered (asked (goal.at.returns c).Start) v good (told first last value)
+    let face = c.face_towards.ensures in
+    let read = direction-is (goal.at.returns c).Start in
+    all-answered (asked (goal.at.returns c).Start) (held c.in_ok-admit.ensures) (passed (goal.at.returns c).In_ok-admit_direction)
+    (told (face.first_value ∙ ap (λ (d : Point). face_first d ps) read) (face.last_value ∙ ap (λ (d : Point). face_last d ps) read)
+    (face.value_value ∙ ap (λ (d : Point). support d ps) read))

@@ -6,48 +6,44 @@ use native.Mathlib.Omega.{arith}
 use lib.IntN.{pos}
 use lib.ListN.{length}
 use Rattle.plane.specs.Point.{points}
-use Rattle.plane.specs.Refusal.{Valid}
 use Rattle.plane.specs.Floor.{on}
 use Rattle.plane.specs.Question.{Question, ask_mirror}
 use Rattle.plane.proofs.theory.lists.Flat.{points-length}
 use Rattle.plane.proofs.theory.mirror.Mirror.{mirror-count}
 use Rattle.plane.proofs.theory.mirror.MirrorSize.{mirror-little, mirror-enough}
-use Rattle.admission.specs.theory.Judged.{refuses}
+use Rattle.admission.specs.theory.Judged.{refuses, held, refusal-of, handed-on}
 use Rattle.admission.specs.theory.Door.{shapes-refused, rest-refused, all-written}
 use Rattle.shape_questions.proofs.mirror.Goals as goal
-use Rattle.shape_questions.proofs.mirror.Goals.{In_default, Start}
+use Rattle.shape_questions.proofs.mirror.Goals.{In_ok-admit, Start}
 
 -- the question
 abbrev asked : Start → Question
 asked c = ask_mirror (on c.args.list.now c.args.floor) c.args.out.now
 
--- past the judging the list is a shape
-valid : (c : In_default) → Valid c.args.list.now
-valid c = c.admit.ensures.valid c.in_default.is
-
-pub returns-in-No : goal.returns-in-No
-returns-in-No c = shapes-refused (asked (goal.at.returns-in-No c).Start)
-    (c.admit.ensures.no _ c.in-No.is)
+pub returns-in_err-admit : goal.returns-in_err-admit
+returns-in_err-admit c =
+    rw (handed-on _ _ c.from_residual.ensures.1)
+    (shapes-refused (asked (goal.at.returns-in_err-admit c).Start) (refusal-of c.in_err-admit.ensures))
 
 -- twice as many numbers as corners
-doubled : (c : In_default) → let l = c.args.list.now in length l ≡ 2 * length (points l)
-doubled c = omega (arith, points-length c.args.list.now, (valid c).paired)
+doubled : (c : In_ok-admit) → let l = c.args.list.now in length l ≡ 2 * length (points l)
+doubled c = omega (arith, points-length c.args.list.now, (held c.in_ok-admit.ensures).paired)
 
 pub returns-then-out-list : goal.returns-then-out-list
 returns-then-out-list c =
-    rest-refused (asked (goal.at.returns-then-out-list c).Start) (valid (goal.at.returns-then-out-list c).In_default)
-    (refuses (mirror-little c.args.list.now (valid (goal.at.returns-then-out-list c).In_default) c.args.out.now
-    (omega (arith, c.if-out-list.true, doubled (goal.at.returns-then-out-list c).In_default))))
+    rest-refused (asked (goal.at.returns-then-out-list c).Start) (held c.in_ok-admit.ensures)
+    (refuses (mirror-little c.args.list.now (held c.in_ok-admit.ensures) c.args.out.now
+    (omega (arith, c.if-out-list.true, doubled (goal.at.returns-then-out-list c).In_ok-admit))))
 
 pub mirror-requires : goal.mirror-requires
 mirror-requires c =
-    (valid (goal.at.mirror-requires c).In_default, omega (arith, c.if-out-list.false, doubled (goal.at.mirror-requires c).In_default))
+    (held c.in_ok-admit.ensures, omega (arith, c.if-out-list.false, doubled (goal.at.mirror-requires c).In_ok-admit))
 
 pub returns : goal.returns
 returns c =
-    let v = valid (goal.at.returns c).In_default in
+    let v = held c.in_ok-admit.ensures in
     let l = c.args.list.now in
     all-written (asked (goal.at.returns c).Start) v
-    (mirror-enough l v c.args.out.now (omega (arith, c.if-out-list.false, doubled (goal.at.returns c).In_default)))
+    (mirror-enough l v c.args.out.now (omega (arith, c.if-out-list.false, doubled (goal.at.returns c).In_ok-admit)))
     (ap (λ (n : ℕ). pos n ∷ pos c.args.floor ∷ []) (c.count.ensures ∙ sym (mirror-count (points l) v.shape)))
     c.mirror.ensures

@@ -5,7 +5,6 @@
 --     Sifting                         the invariant of the loop that copies them: of the first i points k stay and are held
 --     sift-start, sift-one, sift-end  its moves; `sift-room`: there is room for the next
 --     outer-reduced                   what it leaves
---     chosen-below                    one of two positions
 use Rattle.std.specs.Prelude.{◌≡◌, refl, Bool, true, false, not, cond, ◌&&◌, ◌⊎◌, List, [], ◌∷◌, ℕ, suc, ◌+◌, ◌-◌, ◌≤◌, ◌<◌, ℤ, pos, ◌-ℤ◌}
 use Rattle.std.specs.Prelude.{◌*ℤ◌, length, ◌≤ℤ◌, ◌<ℤ◌}
 use Rattle.std.proofs.Common.{sym, ◌∙◌, ap, subst, inl, inr, add-one, arith}
@@ -231,9 +230,3 @@ outer-reduced b S reached {l} {r} h = record {
   part = λ p m. outer-member b S (subst (λ L. p ∈ L) h.front m);
   shape = ap shape_of h.front ∙ outer_shape b S reached;
 }
-
--- ---- positions
-
-pub chosen-below : (b : Bool) {i j n k : ℕ} → k ≡ cond b i j → i < n → j < n → k < n
-chosen-below true e h l = omega (arith, e)
-chosen-below false e h l = omega (arith, e)

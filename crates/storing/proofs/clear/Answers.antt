@@ -1,10 +1,8 @@
 -- `clear` meets its contract. Where all bytes are 0, nothing is stored. The invariant: the bytes from p on are cleared, and those before
--- it as they were; the measure is p.
-use mathlib.Core.Path.{◌≡◌, subst}
-use Prim.Native.Nat.{ℕ, suc, ◌-◌}
-use native.Mathlib.Omega.{arith}
-use lib.ListN.{length}
-use Rattle.journal.proofs.theory.Storing.{ran-blank, ran-length, Cleared, cleared-start, cleared-next}
+-- it as they were.
+use Rattle.std.specs.Prelude.{◌≡◌, ℕ, suc, ◌-◌}
+use Rattle.std.proofs.Common.{subst, arith}
+use Rattle.journal.proofs.theory.Storing.{ran-blank, Cleared, cleared-start, cleared-next}
 use Rattle.storing.proofs.clear.Goals as goal
 use Rattle.storing.proofs.clear.Goals.{At-loop-p}
 
@@ -15,26 +13,12 @@ moved c q e =
     let args = c.args in
     subst (λ (i : ℕ). Cleared args.allowed args.log.now i c.loop-p.left c.loop-p.log) e c.loop-p.invariant.1
 
--- the log is as long as it was
-room : (c : At-loop-p) → length c.loop-p.log ≡ length c.args.log.now
-room c = ran-length c.loop-p.invariant.1.ran
-
 pub returns-then-is_blank : goal.returns-then-is_blank
 returns-then-is_blank c =
     ran-blank _ _ _ (c.is_blank.ensures c.if-is_blank.true)
 
 pub loop-p-init : goal.loop-p-init
 loop-p-init c = (c.requires, cleared-start _ _)
-
-pub overflow_sub-p : goal.overflow_sub-p
-overflow_sub-p c = omega (arith, c.loop-p-test.true)
-
-pub tidy-left-requires : goal.tidy-left-requires
-tidy-left-requires c =
-    omega (arith, room c.before.before, c.loop-p.invariant.1.inside, c.loop-p-test.true)
-
-pub loop-p-smaller : goal.loop-p-smaller
-loop-p-smaller c = omega (arith, c.loop-p-test.true)
 
 pub loop-p-preserved : goal.loop-p-preserved
 loop-p-preserved c =
@@ -44,10 +28,6 @@ loop-p-preserved c =
       cleared-next (c.loop-p.p - 1) (moved (goal.at.loop-p-preserved c).At-loop-p _ next) c.tidy-left.ensures,
     )
 
-pub shape_of-log : goal.shape_of-log
-shape_of-log c = room c.before
-
 pub returns : goal.returns
 returns c =
-    (moved c.before c.args.from
-    (omega (arith, c.loop-p-test.false, c.loop-p.invariant.0))).ran
+    (moved (goal.at.returns c).At-loop-p c.args.from (omega (arith, c.loop-p-test.false, c.loop-p.invariant.0))).ran

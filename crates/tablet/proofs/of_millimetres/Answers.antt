@@ -1,11 +1,11 @@
 -- `of_millimetres` meets its contract, test by test. What passes 31 bits is out of range.
+use Rattle.std.specs.Prelude.{Ok}
 use Rattle.std.proofs.Common.{◌≡◌, true, sym, ap, ◌∙◌, w32}
 use Rattle.integer.specs.Machine.{result-is}
 use Rattle.plane.specs.Refusal.{outside}
 use Rattle.tablet.specs.Double.{finite}
 use Rattle.tablet.specs.Test.{whole, short, truncated}
 use Rattle.tablet.proofs.theory.Reads.{read-not-finite, read-not-whole, read-far, read-near, short-far}
-use Rattle.tablet.specs.declared.reading.Read.TheVariants.{Whole}
 use Rattle.tablet.proofs.of_millimetres.Goals as goal
 use Rattle.tablet.proofs.of_millimetres.Goals.{After-outside, Else-not-is_finite, Else-not-is_short, Else-not-is_whole}
 
@@ -51,6 +51,6 @@ returns-then-outside c =
 
 pub returns : goal.returns
 returns c =
-    ap Whole (result-is w32 c.number-n.type_inv c.number-n.ensures)
+    ap Ok (result-is w32 c.number-n.type_inv c.number-n.ensures)
     ∙ read-near _ (is_finite c.before.before.before.before.before.before.before) (is_whole c.before.before.before.before.before)
     (sym (is-outside c.before) ∙ c.if-outside.false)

@@ -3,6 +3,7 @@
 --     short-far             what passes 31 bits is out of range
 --     small-not-whole       0 < |v| < 1 in eighths
 --     scaled-same           scaled by 0.125 it is the same reading in millimetres, unless it is small
+use Rattle.std.specs.Prelude.{Ok, Err}
 use Rattle.std.specs.Prelude.{◌≡◌, ℕ, zero, suc, ◌*◌, ◌/◌, ◌%◌, ◌^◌, ◌<◌, ◌≤◌, Bool, true, false, cond, not, ◌&&◌, T, ltb, ℤ, negsuc, ◌==◌}
 use Rattle.std.specs.Prelude.{nat_eq, nat_lt, unsigned_abs, refl, Float}
 use Rattle.std.proofs.Common.{sym, ap₂, ◌∙◌, mul-one, mul-pos, mod-eq_of_lt, lt_of_lt_of_le, lt_of_le_of_lt, le-div_iff_mul-le, arith}
@@ -23,39 +24,42 @@ use Rattle.tablet.proofs.theory.Fraction.{whole_same, part_same}
 use Rattle.tablet.proofs.theory.Exact.{eighth-exact}
 use Rattle.tablet.specs.declared.reading.Reading.{Reading}
 use Rattle.tablet.specs.declared.reading.Reading.TheVariants.{Millimetres, Eighths}
-use Rattle.tablet.specs.declared.reading.Read.TheVariants.{Whole, NotFinite, NotWhole, Far}
+use Rattle.tablet.specs.declared.reading.Fault.TheVariants.{NotFinite, NotWhole, Far}
 
 -- ---- the three rows
 
 module _ (r : Reading) where
-  pub reads-not-finite : not_finite r ≡ true → NotFinite ≡ read_as r
+  pub reads-not-finite : not_finite r ≡ true → Err NotFinite ≡ read_as r
   unfolding read_as
-  reads-not-finite a = ap (λ b. cond b NotFinite (cond (not_whole r) NotWhole (cond (far r) Far (Whole (whole_number r))))) (sym a)
+  reads-not-finite a = ap (λ b. cond b (Err NotFinite) (cond (not_whole r) (Err NotWhole) (cond (far r) (Err Far) (Ok
+      (whole_number r))))) (sym a)
 
-  past-finite : not_finite r ≡ false → cond (not_whole r) NotWhole (cond (far r) Far (Whole (whole_number r))) ≡ read_as r
+  past-finite : not_finite r ≡ false → cond (not_whole r) (Err NotWhole) (cond (far r) (Err Far) (Ok (whole_number r))) ≡ read_as r
   unfolding read_as
-  past-finite a = ap (λ b. cond b NotFinite (cond (not_whole r) NotWhole (cond (far r) Far (Whole (whole_number r))))) (sym a)
+  past-finite a = ap (λ b. cond b (Err NotFinite) (cond (not_whole r) (Err NotWhole) (cond (far r) (Err Far) (Ok (whole_number r)))))
+      (sym a)
 
-  pub reads-not-whole : not_finite r ≡ false → not_whole r ≡ true → NotWhole ≡ read_as r
-  reads-not-whole a w = ap (λ b. cond b NotWhole (cond (far r) Far (Whole (whole_number r)))) (sym w) ∙ past-finite a
+  pub reads-not-whole : not_finite r ≡ false → not_whole r ≡ true → Err NotWhole ≡ read_as r
+  reads-not-whole a w = ap (λ b. cond b (Err NotWhole) (cond (far r) (Err Far) (Ok (whole_number r)))) (sym w) ∙ past-finite a
 
-  past-whole : not_finite r ≡ false → not_whole r ≡ false → cond (far r) Far (Whole (whole_number r)) ≡ read_as r
-  past-whole a w = ap (λ b. cond b NotWhole (cond (far r) Far (Whole (whole_number r)))) (sym w) ∙ past-finite a
+  past-whole : not_finite r ≡ false → not_whole r ≡ false → cond (far r) (Err Far) (Ok (whole_number r)) ≡ read_as r
+  past-whole a w = ap (λ b. cond b (Err NotWhole) (cond (far r) (Err Far) (Ok (whole_number r)))) (sym w) ∙ past-finite a
 
-  pub reads-far : not_finite r ≡ false → not_whole r ≡ false → far r ≡ true → Far ≡ read_as r
-  reads-far a w f = ap (λ b. cond b Far (Whole (whole_number r))) (sym f) ∙ past-whole a w
+  pub reads-far : not_finite r ≡ false → not_whole r ≡ false → far r ≡ true → Err Far ≡ read_as r
+  reads-far a w f = ap (λ b. cond b (Err Far) (Ok (whole_number r))) (sym f) ∙ past-whole a w
 
-  pub reads-near : not_finite r ≡ false → not_whole r ≡ false → far r ≡ false → Whole (whole_number r) ≡ read_as r
-  reads-near a w f = ap (λ b. cond b Far (Whole (whole_number r))) (sym f) ∙ past-whole a w
+  pub reads-near : not_finite r ≡ false → not_whole r ≡ false → far r ≡ false → Ok (whole_number r) ≡ read_as r
+  reads-near a w f = ap (λ b. cond b (Err Far) (Ok (whole_number r))) (sym f) ∙ past-whole a w
 
 -- the rows decide
 pub reads-alike : (r t : Reading) → not_finite r ≡ not_finite t → not_whole r ≡ not_whole t
     → whole_number r ≡ whole_number t → read_as r ≡ read_as t
 unfolding read_as far
 reads-alike r t a w n =
-    ap (λ b. cond b NotFinite (cond (not_whole r) NotWhole (cond (outside (whole_number r)) Far (Whole (whole_number r))))) a
-    ∙ ap (λ b. cond (not_finite t) NotFinite (cond b NotWhole (cond (outside (whole_number r)) Far (Whole (whole_number r))))) w
-    ∙ ap (λ z. cond (not_finite t) NotFinite (cond (not_whole t) NotWhole (cond (outside z) Far (Whole z)))) n
+    ap (λ b. cond b (Err NotFinite) (cond (not_whole r) (Err NotWhole) (cond (outside (whole_number r)) (Err Far) (Ok (whole_number r))))) a
+    ∙ ap (λ b. cond (not_finite t) (Err NotFinite) (cond b (Err NotWhole) (cond (outside (whole_number r)) (Err Far) (Ok
+    (whole_number r))))) w
+    ∙ ap (λ z. cond (not_finite t) (Err NotFinite) (cond (not_whole t) (Err NotWhole) (cond (outside z) (Err Far) (Ok z)))) n
 
 -- ---- millimetres
 
@@ -72,21 +76,21 @@ unfolding far
 far-is v = ap outside (number_is v)
 
 module _ (v : Float) where
-  pub read-not-finite : finite v ≡ false → NotFinite ≡ read_as (Millimetres v)
+  pub read-not-finite : finite v ≡ false → Err NotFinite ≡ read_as (Millimetres v)
   unfolding not_finite
   read-not-finite f = reads-not-finite (Millimetres v) (ap not f)
 
-  pub read-not-whole : finite v ≡ true → whole v ≡ false → NotWhole ≡ read_as (Millimetres v)
+  pub read-not-whole : finite v ≡ true → whole v ≡ false → Err NotWhole ≡ read_as (Millimetres v)
   unfolding not_finite
   read-not-whole f w = reads-not-whole (Millimetres v) (ap not f) (not-whole-is v ∙ ap not w)
 
-  pub read-far : finite v ≡ true → whole v ≡ true → outside (truncated v) ≡ true → Far ≡ read_as (Millimetres v)
+  pub read-far : finite v ≡ true → whole v ≡ true → outside (truncated v) ≡ true → Err Far ≡ read_as (Millimetres v)
   unfolding not_finite
   read-far f w h = reads-far (Millimetres v) (ap not f) (not-whole-is v ∙ ap not w) (far-is v ∙ h)
 
-  pub read-near : finite v ≡ true → whole v ≡ true → outside (truncated v) ≡ false → Whole (truncated v) ≡ read_as (Millimetres v)
+  pub read-near : finite v ≡ true → whole v ≡ true → outside (truncated v) ≡ false → Ok (truncated v) ≡ read_as (Millimetres v)
   unfolding not_finite
-  read-near f w h = ap Whole (sym (number_is v)) ∙ reads-near (Millimetres v) (ap not f) (not-whole-is v ∙ ap not w) (far-is v ∙ h)
+  read-near f w h = ap Ok (sym (number_is v)) ∙ reads-near (Millimetres v) (ap not f) (not-whole-is v ∙ ap not w) (far-is v ∙ h)
 
 pub signed-size : (s : Bool) (n : ℕ) → unsigned_abs (signed s n) ≡ n
 signed-size true zero = refl
@@ -115,7 +119,7 @@ has_value nan h = absurd (let k : ⊥ = omega arith in k)
 has_value (inf s) h = absurd (let k : ⊥ = omega arith in k)
 has_value (fin s m e) h = refl
 
-pub small-not-whole : (v : Float) → small v ≡ true → NotWhole ≡ read_as (Eighths v)
+pub small-not-whole : (v : Float) → small v ≡ true → Err NotWhole ≡ read_as (Eighths v)
 unfolding small not_finite not_whole
 small-not-whole v h =
     let p = (and-eq-true_iff (nat_lt 0 (over v)) (nat_lt (over v) (under v))).0 h in

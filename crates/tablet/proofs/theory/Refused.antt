@@ -2,6 +2,7 @@
 --     Comes r x                                               what the ticket says of a reading that comes to x
 --     comes, not-finite-comes, not-whole-comes, far-comes     it does so exactly then
 --     blamed-refused, refused-blamed                          a corner is refused exactly if x or y is so blamed
+use Rattle.std.specs.Prelude.{Result, Ok, Err}
 use Rattle.std.specs.Prelude.{◌≡◌, ℕ, Bool, true, false, not, List, [], ◌∷◌, ℤ}
 use Rattle.std.proofs.Math.Path.{refl, sym, subst}
 use Rattle.std.proofs.Common.{ap, ◌∙◌, arith}
@@ -19,16 +20,16 @@ use Rattle.tablet.proofs.theory.Reads.{reads-not-finite, reads-not-whole, reads-
 use Rattle.tablet.proofs.theory.Rows.{not-finite-row, not-whole-row, far-row, whole-passed}
 use Rattle.tablet.proofs.theory.Value.{number-value, value_row, value-number, whole-value, value-whole}
 use Rattle.tablet.specs.declared.reading.Reading.{Reading}
-use Rattle.tablet.specs.declared.reading.Read.{Read}
-use Rattle.tablet.specs.declared.reading.Read.TheVariants.{Whole, NotFinite, NotWhole, Far}
+use Rattle.tablet.specs.declared.reading.Fault.{Fault}
+use Rattle.tablet.specs.declared.reading.Fault.TheVariants.{NotFinite, NotWhole, Far}
 
 -- ---- one reading
 
-abbrev pub Comes : Reading → Read → Type 0
-Comes r (Whole n) = Accepted r n
-Comes r NotFinite = finite (double r) ≡ false
-Comes r NotWhole = (finite (double r) ≡ true) × ((z : ℤ) → Equals r z → ⊥)
-Comes r Far = (finite (double r) ≡ true) × (z : ℤ) × Equals r z × (Within max_coordinate z → ⊥)
+abbrev pub Comes : Reading → Result ℤ Fault → Type 0
+Comes r (Ok n) = Accepted r n
+Comes r (Err NotFinite) = finite (double r) ≡ false
+Comes r (Err NotWhole) = (finite (double r) ≡ true) × ((z : ℤ) → Equals r z → ⊥)
+Comes r (Err Far) = (finite (double r) ≡ true) × (z : ℤ) × Equals r z × (Within max_coordinate z → ⊥)
 
 module _ (r : Reading) where
   pub comes : Comes r (read_as r)
@@ -43,39 +44,39 @@ module _ (r : Reading) where
           (not-false _ p, whole_number r, number-value r q, λ w. true-not-false s (within→near _ w))
       go false false false p q s = subst (Comes r) (reads-near r p q s) (not-false _ p, number-value r q, near→within _ s)
 
-  pub not-finite-comes : finite (double r) ≡ false → read_as r ≡ NotFinite
+  pub not-finite-comes : finite (double r) ≡ false → read_as r ≡ Err NotFinite
   unfolding not_finite
   not-finite-comes f = sym (reads-not-finite r (ap not f))
 
-  pub not-whole-comes : finite (double r) ≡ true → ((z : ℤ) → Equals r z → ⊥) → read_as r ≡ NotWhole
+  pub not-whole-comes : finite (double r) ≡ true → ((z : ℤ) → Equals r z → ⊥) → read_as r ≡ Err NotWhole
   unfolding not_finite
   not-whole-comes f none = go (not_whole r) refl
     where
-      go : (b : Bool) → not_whole r ≡ b → read_as r ≡ NotWhole
+      go : (b : Bool) → not_whole r ≡ b → read_as r ≡ Err NotWhole
       go true q = sym (reads-not-whole r (ap not f) q)
       go false q = absurd (none (whole_number r) (number-value r q))
 
-  pub far-comes : finite (double r) ≡ true → (z : ℤ) → Equals r z → (Within max_coordinate z → ⊥) → read_as r ≡ Far
+  pub far-comes : finite (double r) ≡ true → (z : ℤ) → Equals r z → (Within max_coordinate z → ⊥) → read_as r ≡ Err Far
   unfolding not_finite far
   far-comes f z e out = go (far r) refl
     where
-      go : (b : Bool) → far r ≡ b → read_as r ≡ Far
+      go : (b : Bool) → far r ≡ b → read_as r ≡ Err Far
       go true s = sym (reads-far r (ap not f) (value_row r z e) s)
       go false s = absurd (out (subst (Within max_coordinate) (value-number r z e) (near→within _ s)))
 
 -- a reading is accepted or refused for one of the reasons
 data Verdict (r : Reading) : Type 0 where
-  accepted : (n : ℤ) → read_as r ≡ Whole n → Verdict r
+  accepted : (n : ℤ) → read_as r ≡ Ok n → Verdict r
   turned : (n : ℕ) → Reason r n → Verdict r
 
 verdict : (r : Reading) → Verdict r
 verdict r = go (read_as r) refl (comes r)
   where
-    go : (x : Read) → read_as r ≡ x → Comes r x → Verdict r
-    go (Whole n) e c = accepted n e
-    go NotFinite e c = turned 17 (not-finite refl c)
-    go NotWhole e c = turned 18 (not-whole refl c.0 c.1)
-    go Far e c = turned 3 (out_of_range refl c.0 c.1 c.2 c.3)
+    go : (x : Result ℤ Fault) → read_as r ≡ x → Comes r x → Verdict r
+    go (Ok n) e c = accepted n e
+    go (Err NotFinite) e c = turned 17 (not-finite refl c)
+    go (Err NotWhole) e c = turned 18 (not-whole refl c.0 c.1)
+    go (Err Far) e c = turned 3 (out_of_range refl c.0 c.1 c.2 c.3)
 
 -- ---- the rows of a reading, with any rows after them
 
@@ -88,7 +89,7 @@ module _ (part : ℕ) (r : Reading) (x : Reply) where
   reason-rows (out_of_range e f z v out) =
       first_row-given x (far-row part r (far-comes r f z v out)) ∙ ap (λ (k : ℕ). refused k (part ∷ [])) (sym e)
 
-  accepted-rows : {n : ℤ} → read_as r ≡ Whole n → first_row (reading_rows part r) x ≡ x
+  accepted-rows : {n : ℤ} → read_as r ≡ Ok n → first_row (reading_rows part r) x ≡ x
   accepted-rows {n} h = first_row-none (reading_rows part r) x (whole-passed part r n h)
 
 -- ---- a corner
@@ -104,10 +105,10 @@ module _ (x y : Reading) where
   reason-x : {n : ℕ} → Reason x n → tablet_reply x y ≡ refused n (1 ∷ [])
   reason-x q = in-turn ∙ reason-rows 1 x _ q
 
-  reason-y : {m : ℤ} → read_as x ≡ Whole m → {n : ℕ} → Reason y n → tablet_reply x y ≡ refused n (2 ∷ [])
+  reason-y : {m : ℤ} → read_as x ≡ Ok m → {n : ℕ} → Reason y n → tablet_reply x y ≡ refused n (2 ∷ [])
   reason-y h q = in-turn ∙ accepted-rows 1 x _ h ∙ reason-rows 2 y _ q
 
-  both-accepted : {m n : ℤ} → read_as x ≡ Whole m → read_as y ≡ Whole n → tablet_reply x y ≡ numbers
+  both-accepted : {m n : ℤ} → read_as x ≡ Ok m → read_as y ≡ Ok n → tablet_reply x y ≡ numbers
   both-accepted h k = in-turn ∙ accepted-rows 1 x _ h ∙ accepted-rows 2 y _ k
 
   pub blamed-refused : {n : ℕ} {carries : List ℕ} → Blamed x y n carries → tablet_reply x y ≡ refused n carries

@@ -4,6 +4,7 @@
 --     number-value, value_row, value-number     row 18 passes a reading exactly if its value is a whole number, which is `whole_number`
 --     held-value        the double that is sent back for n has the value n
 --     scaled_value      a double scaled by 0.125 has, as millimetres, the value that it had as eighths
+use Rattle.std.specs.Prelude.{Ok}
 use Rattle.std.specs.Prelude.{◌≡◌, ℕ, zero, suc, ◌+◌, ◌*◌, ◌/◌, ◌%◌, ◌^◌, ◌<◌, ◌≤◌, Bool, true, false, not, T, [], ◌∷◌, ℤ, pos, negsuc}
 use Rattle.std.specs.Prelude.{◌*ℤ◌, neg_ℤ, ◌==◌, ◌≢◌, unsigned_abs, refl, Float}
 use Rattle.std.proofs.Common.{sym, ap₂, ◌∙◌, subst, mul-one, zero-mul, mul-pos, mul-div_cancel, div-add-mod', add-zero, le_trans, arith}
@@ -27,7 +28,6 @@ use Rattle.tablet.proofs.theory.Reads.{reads-near, under-pos, signed-size}
 use Rattle.tablet.proofs.theory.Rows.{whole-passed, whole_is}
 use Rattle.tablet.specs.declared.reading.Reading.{Reading}
 use Rattle.tablet.specs.declared.reading.Reading.TheVariants.{Millimetres, Eighths}
-use Rattle.tablet.specs.declared.reading.Read.TheVariants.{Whole}
 
 -- ---- signs
 
@@ -71,7 +71,7 @@ number-value r h =
     ap (signed (negative (double r))) (divided (over (double r)) (bottom r) (not-false _ h))
     ∙ signed-times (negative (double r)) (over (double r) / bottom r) (bottom r)
 
-pub whole-value : (r : Reading) (n : ℤ) → read_as r ≡ Whole n
+pub whole-value : (r : Reading) (n : ℤ) → read_as r ≡ Ok n
     → (finite (double r) ≡ true) × (top r ≡ n *ℤ pos (bottom r)) × Within max_coordinate n
 unfolding not_finite far
 whole-value r n h =
@@ -100,11 +100,11 @@ module _ (r : Reading) (n : ℤ) (h : top r ≡ n *ℤ pos (bottom r)) where
       ∙ sign-is s (over (double r)) (bottom r) n (bottom-pos r) h
 
 pub value-whole : (r : Reading) (n : ℤ) → finite (double r) ≡ true
-    → top r ≡ n *ℤ pos (bottom r) → Within max_coordinate n → read_as r ≡ Whole n
+    → top r ≡ n *ℤ pos (bottom r) → Within max_coordinate n → read_as r ≡ Ok n
 unfolding not_finite far
 value-whole r n f h w =
     let is = value-number r n h in
-    sym (reads-near r (ap not f) (value_row r n h) (ap outside is ∙ within→near n w)) ∙ ap Whole is
+    sym (reads-near r (ap not f) (value_row r n h) (ap outside is ∙ within→near n w)) ∙ ap Ok is
 
 -- ---- doubles
 

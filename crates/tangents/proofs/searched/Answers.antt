@@ -34,12 +34,12 @@ better-requires c =
     c.corner_at.ensures c.settle-from.ensures
     c.corner_at-in-loop-to.ensures
 
-pub returns-then-better-to : goal.returns-then-better-to
-returns-then-better-to c =
+pub returns-in_default : goal.returns-in_default
+returns-in_default c =
     let pre = c.requires in
     both_rest _ _ pre.0 pre.1 pre.2 c.loop-to.invariant.start (below c.before.before.before.before.before)
     c.corner_at.ensures c.settle-from.ensures
-    c.corner_at-in-loop-to.ensures (c.better.ensures.rests c.if-better-to.true)
+    c.corner_at-in-loop-to.ensures c.in_default.ensures
 
 pub overflow_add-to : goal.overflow_add-to
 overflow_add-to c =
@@ -53,4 +53,4 @@ loop-to-preserved c =
     let pre = c.requires in
     search-more _ _ pre.0 pre.1 pre.2 c.loop-to.invariant.start (below c.before.before.before.before.before)
     c.corner_at.ensures c.settle-from.ensures
-    c.corner_at-in-loop-to.ensures c.loop-to.invariant c.better.ensures c.if-better-to.false
+    c.corner_at-in-loop-to.ensures c.loop-to.invariant c.in-Some.ensures

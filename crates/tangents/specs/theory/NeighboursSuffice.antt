@@ -1,11 +1,11 @@
 -- A corner of a shape that neither neighbour draws away is drawn away by no corner.
 --     neighbours-rest     Rests, from the corner before and the corner after
---     better-moved, better-rests     what a step of the walk has found: a corner that draws, or that neither neighbour does
+--     better-rests        the same of the corner between them: what a step of the walk has found
 -- The idea: the step from corner p to any other is a sum of the steps to its two neighbours, each taken 0 or more times
 -- (`sector`); what no part of a sum does, the sum does not.
 use Rattle.std.specs.Prelude.{◌≡◌, refl, Bool, true, false, List, [], ◌∷◌, ◌⊎◌, ℕ, ◌≤◌, ◌<◌, ltb, ℤ, pos, ◌+ℤ◌, ◌-ℤ◌, ◌*ℤ◌, length, ◌≤ℤ◌}
 use Rattle.std.specs.Prelude.{◌<ℤ◌}
-use Rattle.std.proofs.Common.{sym, ◌∙◌, ap, subst, inl, inr, arith, ltb-true, ltb-false}
+use Rattle.std.proofs.Common.{◌∙◌, ap, subst, inl, inr, arith, ltb-true, ltb-false}
 use Rattle.integer.specs.Ring.{ring, reify}
 use Rattle.integer.specs.Linear.{linear, lia, ◌&◌}
 use Rattle.integer.specs.Order.{◌<×<◌, ◌≤×≤◌, ◌<×≤◌, ◌≡×◌, contra≤, le_antisym, lt-or-le}
@@ -14,11 +14,10 @@ use Rattle.plane.specs.Turn.{turn, Left}
 use Rattle.plane.specs.Shape.{next, IsShape}
 use Rattle.plane.specs.Direction.{value}
 use Rattle.plane.specs.Tangent.{sign_of}
-use Rattle.plane.proofs.theory.lists.Sought.{true-not-false}
 use Rattle.plane.proofs.theory.lists.Next.{next-below, one-or-next}
 use Rattle.plane.proofs.theory.sum.Positions.{edge-turn, next-left}
 use Rattle.separation.specs.theory.Sector.{sector}
-use Rattle.tangents.specs.Draws.{draws, Facing, Rests, Better}
+use Rattle.tangents.specs.Draws.{draws, Facing, Rests}
 use Rattle.tangents.specs.theory.Sides.{sign_zero}
 use Rattle.tangents.specs.theory.DrawsTest.{Rises, Stays, draws→stays, stays→draws}
 use Rattle.tangents.specs.theory.DrawsOrder.{draws-self}
@@ -119,22 +118,8 @@ module _ (s : Bool) (ps : List Point) (shape : IsShape ps) (q : Point) (facing :
 
 -- ---- a step of the walk
 
-pub better-moved : {s : Bool} {ps : List Point} {i k : ℕ} {q : Point} → k < length ps → draws s (corner ps i) q (corner ps k) ≡ true
-    → Better s ps i q k
-better-moved {s} {ps} {i} {k} {q} h e = record {
-  within = h;
-  rests = λ f. true-not-false (ap (λ j. draws s (corner ps i) q (corner ps j)) (sym f) ∙ e) (draws-self s (corner ps i) q);
-  drawn = λ f. e;
-}
-
 pub better-rests : (s : Bool) (ps : List Point) → IsShape ps → (q : Point) → Facing ps q
     → (b i : ℕ) → b < length ps → next (length ps) b ≡ i
-    → draws s (corner ps i) q (corner ps b) ≡ false → draws s (corner ps i) q (corner ps (next (length ps) i)) ≡ false → Better s ps i q i
-better-rests s ps shape q facing b i h e before after = record {
-  within = rests.within;
-  rests = λ f. rests;
-  drawn = λ f. absurd (f refl);
-}
-  where
-    rests : Rests s ps i q
-    rests = subst (λ j. Rests s ps j q) e (neighbours-rest s ps shape q facing b h (rw e before) (rw e after))
+    → draws s (corner ps i) q (corner ps b) ≡ false → draws s (corner ps i) q (corner ps (next (length ps) i)) ≡ false → Rests s ps i q
+better-rests s ps shape q facing b i h e before after =
+    subst (λ j. Rests s ps j q) e (neighbours-rest s ps shape q facing b h (rw e before) (rw e after))

@@ -1,7 +1,7 @@
 -- A walk one way round, as long as the next corner draws the line's start on: where it ends, the start rests.
 --     slid-rests     it has moved, or the corner on the other way round does not draw either
 --     slid-back      so it is after a walk the other way, where the first did not move
-use Rattle.std.specs.Prelude.{◌≡◌, refl, Bool, true, false, not, List, ℕ, length}
+use Rattle.std.specs.Prelude.{◌≡◌, Bool, true, false, not, List, ℕ, length}
 use Rattle.std.proofs.Common.{sym, ◌∙◌, subst}
 use Rattle.plane.specs.Point.{Point, corner}
 use Rattle.plane.specs.Shape.{IsShape}
@@ -17,9 +17,9 @@ turned false n i k e = sym e
 module _ (s : Bool) (ps : List Point) (shape : IsShape ps) (q : Point) (facing : Facing ps q) where
   both : (forward : Bool) (i : ℕ) → Undrawn s forward ps q i → Undrawn s (not forward) ps q i → Rests s ps i q
   both true i u v = (better-rests s ps shape q facing v.other i v.other-in v.beside v.undrawn
-      (subst (λ k. draws s (corner ps i) q (corner ps k) ≡ false) u.beside u.undrawn)).rests refl
+      (subst (λ k. draws s (corner ps i) q (corner ps k) ≡ false) u.beside u.undrawn))
   both false i u v = (better-rests s ps shape q facing u.other i u.other-in u.beside u.undrawn
-      (subst (λ k. draws s (corner ps i) q (corner ps k) ≡ false) v.beside v.undrawn)).rests refl
+      (subst (λ k. draws s (corner ps i) q (corner ps k) ≡ false) v.beside v.undrawn))
 
   pub slid-rests : (forward : Bool) (from i : ℕ) → Slid s forward ps q from i → (i ≡ from → Undrawn s (not forward) ps q i)
       → Rests s ps i q

@@ -4,7 +4,7 @@
 --     ready-start, ready-end         what the two walks of a turn ask, at any two corners
 --     both_rest                      ends that both rest are the tangent's
 --     tangent-within                 the tangent's ends are positions of the two lists
-use Rattle.std.specs.Prelude.{◌≡◌, Bool, true, false, not, List, ℕ, ◌+◌, ◌≤◌, ◌<◌, ℤ, length}
+use Rattle.std.specs.Prelude.{◌≡◌, Bool, true, false, not, Some, List, ℕ, ◌+◌, ◌≤◌, ◌<◌, ℤ, length}
 use Rattle.std.proofs.Common.{sym, ◌∙◌, ap, subst, zero-le, arith}
 use Rattle.std.proofs.Math.Decide.{ℕ_discrete}
 use Rattle.plane.specs.Point.{Point, points, corner}
@@ -75,9 +75,9 @@ module _ (s t : Bool) {a b : List ℤ} (v : Valid a) (w : Valid b) (h : apart (p
           ap (λ j. draws (not t) (corner B j) p (corner B k)) n
           ∙ ap (λ x. draws (not t) (corner B (tangent_to s t A B)) x (corner B k)) (f ∙ same) ∙ sought.to.undrawn k l
 
-      pub search-more : {k : ℕ} → Searching s t A B from to → Better (not t) B to p k → (k ≡ to → ⊥) → Searching s t A B i (to + 1)
-      search-more {k} g m other = record { start = r.within; not-past = go (ℕ_discrete to (tangent_to s t A B)) }
+      pub search-more : {k : ℕ} → Searching s t A B from to → Better (not t) B to p (Some k) → Searching s t A B i (to + 1)
+      search-more {k} g (within, drawn) = record { start = r.within; not-past = go (ℕ_discrete to (tangent_to s t A B)) }
         where
           go : Dec (to ≡ tangent_to s t A B) → to + 1 ≤ tangent_to s t A B
-          go (yes n) = true-not-false (m.drawn other) (end-rests n k m.within)
+          go (yes n) = true-not-false drawn (end-rests n k within)
           go (no n) = omega (arith, g.not-past)

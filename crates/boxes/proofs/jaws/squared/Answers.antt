@@ -13,9 +13,6 @@ use Rattle.measure.specs.theory.Height.{edge_squared-value}
 use Rattle.boxes.proofs.jaws.squared.Goals as goal
 use Rattle.boxes.proofs.jaws.squared.Goals.{After-dot}
 
-pub edge_at-along-requires : goal.edge_at-along-requires
-edge_at-along-requires c = c.requires
-
 pub dot-requires : goal.dot-requires
 dot-requires c =
     let pre = c.requires in

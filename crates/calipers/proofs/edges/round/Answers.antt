@@ -7,9 +7,6 @@ use lib.ListN.{length}
 use Rattle.plane.specs.Point.{points}
 use Rattle.calipers.proofs.edges.round.Goals as goal
 
-pub count-requires : goal.count-requires
-count-requires c = tt
-
 pub returns-then-i-count : goal.returns-then-i-count
 returns-then-i-count c = record
     { value = ap (λ (b : Bool). cond b 0 c.args.i) (sym (eq-eqb _ _ (c.if-i-count.true ∙ c.count.ensures))); upper_bound = c.requires.1 }

@@ -2,14 +2,8 @@
 use mathlib.Core.Path.{sym, ◌∙◌}
 use native.Mathlib.Omega.{arith}
 use Rattle.plane.specs.Point.{points}
-use Rattle.plane.proofs.theory.sum.Positions.{edges_few, edges_some}
+use Rattle.plane.proofs.theory.sum.Positions.{edges_some}
 use Rattle.calipers.proofs.edges.sides.Goals as goal
-
-pub count-n-requires : goal.count-n-requires
-count-n-requires c = tt
-
-pub returns-then-n-lt2 : goal.returns-then-n-lt2
-returns-then-n-lt2 c = sym (edges_few (points c.args.list.now) (omega (arith, c.count-n.ensures)))
 
 pub returns-else-n-lt2 : goal.returns-else-n-lt2
 returns-else-n-lt2 c = c.count-n.ensures ∙ sym

@@ -5,9 +5,6 @@ use Rattle.polygon.specs.theory.Small.{small-corner}
 use Rattle.calipers.specs.theory.Image.{image-corner}
 use Rattle.calipers.proofs.image.corner_at.Goals as goal
 
-pub place-requires : goal.place-requires
-place-requires c = (c.requires.1.within, c.requires.2)
-
 pub opposite-requires : goal.opposite-requires
 opposite-requires c = small-corner _ c.requires.0.in_range _ c.place.ensures.upper_bound c.corner_at.ensures
 

@@ -11,15 +11,3 @@ overflow_add-s c =
     let l = c.args.list.now in
     let side = c.requires.2 in
     omega (arith, side.at_in, image-edges l c.requires.0, edges-at-most (points l), points-length l)
-
-pub ahead-requires : goal.ahead-requires
-ahead-requires c = let pre = c.requires in (pre.0, pre.1, pre.2, c.if-s.true)
-
-pub returns-then-s : goal.returns-then-s
-returns-then-s c = rw c.if-waits.false c.ahead.ensures
-
-pub late-requires : goal.late-requires
-late-requires c = c.requires
-
-pub returns : goal.returns
-returns c = rw c.if-waits.false c.late.ensures

@@ -5,7 +5,6 @@ use native.Mathlib.Omega.{arith}
 use lib.ListN.{length}
 use Rattle.plane.specs.Point.{points}
 use Rattle.plane.specs.Forms.{edges}
-use Rattle.plane.proofs.theory.lists.Flat.{points-length}
 use Rattle.plane.proofs.theory.sum.Positions.{edges-at-most}
 use Rattle.polygon.specs.Point.{at}
 use Rattle.calipers.specs.Image.{image}
@@ -37,9 +36,6 @@ left c =
       omega (arith, c.if-s.false, stands.at_in, stands.end_is),
       omega (arith, c.if-s.false, stands.at_in, stands.end_is, image-count l c.requires.0),
     )
-
-pub overflow_add-s : goal.overflow_add-s
-overflow_add-s c = omega (arith, (left c.before).1, points-length c.args.list.now)
 
 pub corner_at-requires : goal.corner_at-requires
 corner_at-requires c = (c.requires.0, c.requires.1, (left c.before).1)

@@ -9,9 +9,6 @@ use Rattle.plane.specs.Point.{points}
 use Rattle.plane.proofs.theory.lists.Flat.{points-length}
 use Rattle.calipers.proofs.image.place.Goals as goal
 
-pub count-n-requires : goal.count-n-requires
-count-n-requires c = tt
-
 pub overflow_add-k : goal.overflow_add-k
 overflow_add-k c =
     omega (arith, c.requires.0, c.requires.1, points-length c.args.list.now)

@@ -21,9 +21,6 @@ within c =
 pub corner_at-corner-requires : goal.corner_at-corner-requires
 corner_at-corner-requires c = (c.requires.0, c.requires.1, within c)
 
-pub sides-requires : goal.sides-requires
-sides-requires c = tt
-
 pub standing-requires : goal.standing-requires
 standing-requires c =
     image-small _ c.requires.0 _ (within c.before.before) c.corner_at-corner.ensures
@@ -41,6 +38,3 @@ onto-requires c =
         no_edge = made.3;
       },
     )
-
-pub returns : goal.returns
-returns c = (c.onto.ensures.0 ∙ c.standing.ensures.0, c.onto.ensures.1)

@@ -1,14 +1,8 @@
 -- `here` meets its contract: sums of small parts fit 32 bits.
 use mathlib.Core.Path.{ap₂}
 use Rattle.plane.specs.Point.{point}
-use Rattle.integer.specs.Machine.{machine, bounded, machine-fits, machine-is}
+use Rattle.integer.specs.Machine.{machine, bounded, machine-is}
 use Rattle.calipers.proofs.side.here.Goals as goal
-
-pub overflow_add-result : goal.overflow_add-result
-overflow_add-result c = machine-fits (search (machine, bounded) depth 40) tt
-
-pub overflow_add-result-2 : goal.overflow_add-result-2
-overflow_add-result-2 c = machine-fits (search (machine, bounded) depth 40) tt
 
 pub returns : goal.returns
 returns c =

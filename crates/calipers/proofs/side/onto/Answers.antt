@@ -20,9 +20,6 @@ few c = omega (arith, c.requires.0.at_in, edges-at-most (points c.args.list.now)
 pub overflow_add-s : goal.overflow_add-s
 overflow_add-s c = omega (arith, few c.before, points-length c.args.list.now)
 
-pub overflow_add-s-then-s : goal.overflow_add-s-then-s
-overflow_add-s-then-s c = omega (arith, few c.before.before.before.before, points-length c.args.list.now)
-
 -- the next corner is there
 ends : (c : After-struct_known-then-s-1) →
     c.args.s.at + 1 < length (points c.args.list.now)
@@ -46,9 +43,3 @@ returns-then-s c =
           (ap (λ q. q ⊖ corner_round ps c.args.s.at) c.corner_at.ensures
           ∙ edge-inner ps _ _ stands.end_is c.if-s.true),
     )
-
-pub closing-requires : goal.closing-requires
-closing-requires c = let pre = c.requires in (pre.0, pre.1, pre.2, c.if-s.false)
-
-pub returns : goal.returns
-returns c = c.closing.ensures

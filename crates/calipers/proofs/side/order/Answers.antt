@@ -3,12 +3,6 @@ use Rattle.plane.specs.Turn.{cross}
 use Rattle.integer.specs.Machine.{machine, bounded, machine-fits, machine-is}
 use Rattle.calipers.proofs.side.order.Goals as goal
 
-pub overflow_mul-result : goal.overflow_mul-result
-overflow_mul-result c = machine-fits (search (machine, bounded) depth 40) tt
-
-pub overflow_mul-result-2 : goal.overflow_mul-result-2
-overflow_mul-result-2 c = machine-fits (search (machine, bounded) depth 40) tt
-
 pub overflow_sub-result : goal.overflow_sub-result
 overflow_sub-result c = machine-fits (search (machine, bounded) depth 40) tt
 

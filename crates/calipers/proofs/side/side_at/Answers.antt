@@ -28,6 +28,3 @@ onto-requires c =
       c.requires.1,
       c.requires.2,
     )
-
-pub returns : goal.returns
-returns c = (c.onto.ensures.0 ∙ c.standing.ensures.0, c.onto.ensures.1)

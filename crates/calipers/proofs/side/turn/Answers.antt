@@ -5,9 +5,6 @@ use Rattle.plane.specs.Turn.{cross}
 use Rattle.calipers.proofs.side.turn.Goals as goal
 use Rattle.calipers.proofs.side.turn.Goals.{After-above, After-beyond}
 
-pub above-requires : goal.above-requires
-above-requires c = let pre = c.requires in (pre.0, pre.1)
-
 -- the two differences, as terms of the machine
 abbrev upright : (c : After-above) → Machine c.above.result
 upright c =
@@ -21,9 +18,6 @@ across c =
 
 pub overflow_mul-result : goal.overflow_mul-result
 overflow_mul-result c = let dy = upright (goal.at.overflow_mul-result c).After-above in machine-fits (search (machine, bounded) depth 40) tt
-
-pub beyond-requires : goal.beyond-requires
-beyond-requires c = let pre = c.requires in (pre.0, pre.1)
 
 pub overflow_mul-result-2 : goal.overflow_mul-result-2
 overflow_mul-result-2 c = let dx = across (goal.at.overflow_mul-result-2 c).After-beyond in machine-fits

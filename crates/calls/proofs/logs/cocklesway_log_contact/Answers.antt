@@ -23,7 +23,7 @@ returns c =
     let from = ap₂ point (to_z-of_z {w = w32} c.ranges.x) (to_z-of_z {w = w32} c.ranges.y) in
     let to = ap₂ point (to_z-of_z {w = w32} c.ranges.u) (to_z-of_z {w = w32} c.ranges.v) in
     let cart = on c.args.cart.now c.args.floor in
-    within-told _ (low (goal.at.returns c).Else-exceeds_floor) c.of_drive.ensures
+    within-told _ (low (goal.at.returns c).Else-exceeds_floor) c.of.ensures
     (c.log_contact.ensures ∙ ap₂ (λ (t u : Point). reply (ask_drive c.args.log.now cart t u)) from to)
 
 pub returns-then-exceeds_floor : goal.returns-then-exceeds_floor

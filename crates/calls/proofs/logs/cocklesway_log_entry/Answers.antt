@@ -6,4 +6,4 @@ use Rattle.calls.proofs.logs.cocklesway_log_entry.Goals as goal
 pub returns : goal.returns
 returns c =
     let asked = c.log_entry.ensures in
-    (c.of_entry.ensures ∙ ap crossed asked.0, asked.1)
+    (c.of.ensures ∙ ap crossed asked.0, asked.1)

@@ -19,4 +19,4 @@ pub overflow_cast-floor : goal.overflow_cast-floor
 overflow_cast-floor c = low_fits _ (low c)
 
 pub returns : goal.returns
-returns c = within-told _ (low (goal.at.returns c).Else-exceeds_floor) c.of_nearest.ensures c.log_nearest.ensures
+returns c = within-told _ (low (goal.at.returns c).Else-exceeds_floor) c.of.ensures c.log_nearest.ensures

@@ -6,4 +6,4 @@ use Rattle.calls.proofs.logs.cocklesway_log_read.Goals as goal
 pub returns : goal.returns
 returns c =
     let asked = c.log_read.ensures in
-    (c.of_answer.ensures ∙ ap crossed asked.0, asked.1)
+    (c.of.ensures ∙ ap crossed asked.0, asked.1)

@@ -24,7 +24,7 @@ returns c =
     let to = ap₂ point (to_z-of_z {w = w32} c.ranges.u) (to_z-of_z {w = w32} c.ranges.v) in
     let obstacle = on c.args.obstacle.now c.args.f in
     let cart = on c.args.cart.now c.args.g in
-    within-told _ (low c.before.before).0 c.of_contact.ensures
+    within-told _ (low c.before.before).0 c.of.ensures
     (c.contact.ensures ∙ ap₂ (λ (t u : Point). reply (ask_contact obstacle cart t u)) from to)
 
 pub returns-then-exceeds : goal.returns-then-exceeds

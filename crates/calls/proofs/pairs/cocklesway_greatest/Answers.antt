@@ -22,4 +22,4 @@ pub overflow_cast-g : goal.overflow_cast-g
 overflow_cast-g c = low_fits _ (low c).1
 
 pub returns : goal.returns
-returns c = within-told _ (low c.before.before).0 c.of_greatest.ensures c.greatest.ensures
+returns c = within-told _ (low c.before.before).0 c.of.ensures c.greatest.ensures

@@ -13,7 +13,7 @@ low : (c : Else-exceeds) → (ltb max_floor c.args.f ≡ false) × (ltb max_floo
 low c = both-low _ _ (sym c.exceeds.ensures ∙ c.if-exceeds.false)
 
 pub returns : goal.returns
-returns c = within-written _ (low c.before.before.before.before).0 c.of_answer.ensures c.merge.ensures
+returns c = within-written _ (low c.before.before.before.before).0 c.of.ensures c.merge.ensures
 
 pub returns-then-exceeds : goal.returns-then-exceeds
 returns-then-exceeds c = above-pair _ refl (sym c.exceeds.ensures ∙ c.if-exceeds.true) c.barred_pair.ensures

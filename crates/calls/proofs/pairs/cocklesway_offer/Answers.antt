@@ -22,7 +22,7 @@ returns c =
     let direction = ap₂ point (to_z-of_z {w = w32} c.ranges.u) (to_z-of_z {w = w32} c.ranges.v) in
     let one = on c.args.a.now c.args.f in
     let other = on c.args.b.now c.args.g in
-    within-told _ (low c.before.before).0 c.of_offer.ensures
+    within-told _ (low c.before.before).0 c.of.ensures
     (c.offer.ensures ∙ ap (λ (d : Point). reply (ask_offer one other d)) direction)
 
 pub returns-then-exceeds : goal.returns-then-exceeds

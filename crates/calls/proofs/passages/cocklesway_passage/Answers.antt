@@ -19,7 +19,7 @@ returns-then-exceeds_three c = c.barred_three.ensures
     ∙ ap crossed (passage-above _ _ _ (sym c.exceeds_three.ensures ∙ c.if-exceeds_three.true))
 
 pub returns : goal.returns
-returns c = c.of_passage.ensures
+returns c = c.of.ensures
     ∙ ap crossed (c.passage.ensures ∙ passage-within _ _ _ (low c.before.before).0)
 
 pub overflow_cast-f : goal.overflow_cast-f

@@ -19,4 +19,4 @@ pub overflow_cast-floor : goal.overflow_cast-floor
 overflow_cast-floor c = low_fits _ (low c)
 
 pub returns : goal.returns
-returns c = within-told _ (low c.before.before) c.of_box.ensures c.least_box.ensures
+returns c = within-told _ (low c.before.before) c.of.ensures c.least_box.ensures

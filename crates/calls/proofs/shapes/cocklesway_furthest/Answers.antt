@@ -21,7 +21,7 @@ pub returns : goal.returns
 returns c =
     let direction = ap₂ point (to_z-of_z {w = w32} c.ranges.u) (to_z-of_z {w = w32} c.ranges.v) in
     let asked = ap (λ (d : Point). reply (ask_furthest (on c.args.list.now c.args.floor) d)) direction in
-    within-told _ (low c.before.before) c.of_furthest.ensures (c.furthest.ensures ∙ asked)
+    within-told _ (low c.before.before) c.of.ensures (c.furthest.ensures ∙ asked)
 
 pub returns-then-exceeds_floor : goal.returns-then-exceeds_floor
 returns-then-exceeds_floor c = (above _ (sym c.exceeds_floor.ensures ∙ c.if-exceeds_floor.true) c.barred.ensures).0

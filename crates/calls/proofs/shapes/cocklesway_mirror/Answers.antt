@@ -13,7 +13,7 @@ low : (c : Else-exceeds_floor) → ltb max_floor c.args.floor ≡ false
 low c = sym c.exceeds_floor.ensures ∙ c.if-exceeds_floor.false
 
 pub returns : goal.returns
-returns c = within-written _ (low c.before.before.before.before) c.of_answer.ensures c.mirror.ensures
+returns c = within-written _ (low c.before.before.before.before) c.of.ensures c.mirror.ensures
 
 pub returns-then-exceeds_floor : goal.returns-then-exceeds_floor
 returns-then-exceeds_floor c = above _ (sym c.exceeds_floor.ensures ∙ c.if-exceeds_floor.true) c.barred.ensures

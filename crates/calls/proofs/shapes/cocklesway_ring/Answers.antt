@@ -22,7 +22,7 @@ returns-then-exceeds_floor c =
 pub returns : goal.returns
 returns c =
     let args = c.args in
-    ring-within (on args.list.now args.floor) args.out.now (low c.before.before.before.before) c.of_answer.ensures
+    ring-within (on args.list.now args.floor) args.out.now (low c.before.before.before.before) c.of.ensures
     c.ring.ensures
 
 pub overflow_cast-floor : goal.overflow_cast-floor

@@ -6,7 +6,8 @@ use Rattle.plane.specs.Forms.{NonZero}
 use Rattle.plane.specs.Face.{face_first, face_last}
 use Rattle.plane.proofs.theory.forms.Vector.{opposite-non-zero}
 use Rattle.polygon.specs.Point.{at, Small}
-use Rattle.clearance.specs.theory.Lowest.{face-lowest, face-turned}
+use Rattle.clearance.specs.Faces.{IsFace}
+use Rattle.clearance.specs.theory.Lowest.{face-ends}
 use Rattle.clearance.proofs.face.lowest.Goals as goal
 use Rattle.clearance.proofs.face.lowest.Goals.{After-face_towards-face}
 
@@ -33,12 +34,7 @@ last-is c =
     let ps = points c.args.list.now in
     c.face_towards-face.ensures.last_value ∙ ap (λ (d : Point). face_last d ps) c.against.ensures
 
-pub returns-then-face : goal.returns-then-face
-returns-then-face c =
-    let pre = c.requires in
-    face-turned pre.0.shape pre.2 (first-is c.before.before) (last-is c.before.before) c.if-face.true
-
 pub returns : goal.returns
 returns c =
-    let pre = c.requires in
-    face-lowest pre.0.shape pre.2 (first-is c.before.before) (last-is c.before.before) c.if-face.false
+    let w = (goal.at.returns c).After-face_towards-face in
+    subst (IsFace _ _) (sym c.ordered.ensures) (face-ends c.requires.0.shape c.requires.2 (first-is w) (last-is w))

@@ -21,9 +21,6 @@ use Rattle.clearance.proofs.face.near.Goals as goal
 use Rattle.clearance.proofs.face.near.Goals.{After-next-on, After-previous-back, After-value_at-one, After-value_at-other}
 use Rattle.clearance.proofs.face.near.Goals.{After-value_at-own, Else-other-own}
 
-pub count-count-requires : goal.count-count-requires
-count-count-requires c = tt
-
 pub previous-back-requires : goal.previous-back-requires
 previous-back-requires c = omega (arith, c.count-count.ensures, c.requires.3)
 
@@ -57,15 +54,6 @@ value_at-other-requires c =
 
 pub lowest-requires : goal.lowest-requires
 lowest-requires c = let pre = c.requires in (pre.0, pre.1, pre.2)
-
-pub returns-then-one-own : goal.returns-then-one-own
-returns-then-one-own c = c.lowest.ensures
-
-pub lowest-requires-then-other-own : goal.lowest-requires-then-other-own
-lowest-requires-then-other-own c = let pre = c.requires in (pre.0, pre.1, pre.2)
-
-pub returns-then-other-own : goal.returns-then-other-own
-returns-then-other-own c = c.lowest-then-other-own.ensures
 
 -- what the tests say of the values
 not-less : {x y u v : ℤ} → u ≡ x → v ≡ y → lt_z u v ≡ false → y ≤ℤ x
@@ -101,9 +89,6 @@ own-lowest c =
     (not-less (one c.before.before.before) (own c.before.before.before.before) c.if-one-own.false)
     (not-less (other c.before.before) (own c.before.before.before.before) c.if-other-own.false)
 
-pub ordered-requires : goal.ordered-requires
-ordered-requires c = tt
-
 pub returns-then-other-own-2 : goal.returns-then-other-own-2
 returns-then-other-own-2 c =
     let pre = c.requires in
@@ -111,9 +96,6 @@ returns-then-other-own-2 c =
     (edge-face pre.0.shape pre.2 _ _ (to-on c.before.before.before.before.before.before.before) (own-lowest c.before.before)
     (level-lowest (own-lowest c.before.before) _ (on_in c.before.before.before.before.before.before.before)
     (no_more (other c.before.before.before.before) (own c.before.before.before.before.before.before) c.if-other-own-2.true)))
-
-pub ordered-requires-then-one-own-2 : goal.ordered-requires-then-one-own-2
-ordered-requires-then-one-own-2 c = tt
 
 pub returns-then-one-own-2 : goal.returns-then-one-own-2
 returns-then-one-own-2 c =
@@ -124,9 +106,6 @@ returns-then-one-own-2 c =
     (no_more (one c.before.before.before.before.before.before) (own c.before.before.before.before.before.before.before)
     c.if-one-own-2.true))
     (own-lowest c.before.before.before))
-
-pub ordered-requires-2 : goal.ordered-requires-2
-ordered-requires-2 c = tt
 
 pub returns : goal.returns
 returns c =

@@ -1,7 +1,7 @@
 -- `look` meets its contract. The invariant: from wherever the walk began, all places that are passed fail, but for the corner there, which
 -- is kept; the measure: the edges that are left.
 use mathlib.Core.Path.{◌≡◌, refl, sym, ◌∙◌, ap, subst}
-use mathlib.Core.Bool.{Bool, false, true≢false, false≢true}
+use mathlib.Core.Bool.{Bool, false}
 use Prim.Native.Nat.{zero-le}
 use native.Mathlib.Omega.{arith}
 use mir.Syntax.{w64}
@@ -20,13 +20,11 @@ use Rattle.calipers.specs.theory.Carry.{here-near, first_next, corners-fit, edge
 use Rattle.calipers.specs.theory.Standing.{passed-ended, edges-less}
 use Rattle.calipers.specs.theory.Steps.{at-stepped}
 use Rattle.separation.specs.theory.Image.{image-begun, image-few, image-sides}
-use Rattle.separation.specs.theory.Stops.{corner-here}
 use Rattle.clearance.specs.Stop.{rests, crosses, Stopped}
-use Rattle.clearance.specs.Sight.{Nowhere}
 use Rattle.clearance.proofs.Looking.{Looking, looking-start, looking-at, looking-corner, looking-edge, looking-more, looking-end}
 use Rattle.clearance.proofs.facing.look.Goals as goal
-use Rattle.clearance.proofs.facing.look.Goals.{After-here-first, After-here-there, After-next-n, After-struct_known-2-1}
-use Rattle.clearance.proofs.facing.look.Goals.{After-struct_known-in-loop-first-2-1, At-loop-first, Start}
+use Rattle.clearance.proofs.facing.look.Goals.{After-here-there, After-next-n}
+use Rattle.clearance.proofs.facing.look.Goals.{At-walk, Else-crosses, Start}
 
 -- the walk is where it begins
 starts : (c : Start) → At c.args.a.now (image c.args.b.now) begun
@@ -50,63 +48,41 @@ overflow_add-all c =
       image-few _ _ c.requires.0 c.requires.1,
     )
 
-begins : (c : After-struct_known-2-1) →
-    let args = c.args in
-    walk_of c.side_at-s.result c.side_at-t.result false ≡ record { i = args.i; j = args.j; over = false }
-begins c =
-    sides-walk (record { i = _; j = _; over = false }) c.side_at-s.result c.side_at-t.result
-    c.side_at-s.ensures.0 c.side_at-t.ensures.0
-
-standing : (c : After-struct_known-2-1) →
-    let args = c.args in
-    At args.a.now (image args.b.now) (walk_of c.side_at-s.result c.side_at-t.result false)
-standing c = subst (At _ _) (sym (begins c)) (placed c.before.before.before.before)
-
-first-here : (c : After-here-first) → let args = c.args in
-    at c.here-first.result
-    ≡ here (points args.a.now) (points (image args.b.now)) (record { i = args.i; j = args.j; over = false })
-first-here c =
-    c.here-first.ensures ∙ sides-here (standing c.before) c.side_at-s.ensures.1 c.side_at-t.ensures.1
-    ∙ ap (here _ _) (begins c.before)
-
-pub here-first-requires : goal.here-first-requires
-here-first-requires c =
-    corners-fit (standing c) c.side_at-s.ensures.1 c.side_at-t.ensures.1
-
-pub loop-first-init : goal.loop-first-init
-loop-first-init c = (
-  λ k below moved. looking-start (starts c.before.before.before.before.before) below (begins c.before ∙ moved),
+pub walk-init : goal.walk-init
+walk-init c = (
+  λ k below moved. looking-start (starts (goal.at.walk-init c).Start) below (sides-walk (record { i = _; j = _; over = false })
+      c.side_at-s.result c.side_at-t.result c.side_at-s.ensures.0 c.side_at-t.ensures.0 ∙ moved),
   c.side_at-s.ensures.1,
   c.side_at-t.ensures.1,
   record { small-x = record { size = zero-le }; small-y = record { size = zero-le } },
 )
 
 -- the walk in the loop, from where it is known to begin
-looking : (c : At-loop-first) → let args = c.args in
-    Looking args.a.now (image args.b.now) c.requires.3.count (walk_of c.loop-first.s c.loop-first.t false) (at c.loop-first.back)
-looking c = let p = c.requires.3 in c.loop-first.invariant.0 p.count p.below p.moved
+looking : (c : At-walk) → let args = c.args in
+    Looking args.a.now (image args.b.now) c.requires.3.count (walk_of c.walk.s c.walk.t false) (at c.walk.back)
+looking c = let p = c.requires.3 in c.walk.invariant.0 p.count p.below p.moved
 
 pub order-c-requires : goal.order-c-requires
-order-c-requires c = let inv = c.loop-first.invariant in edges_fit (looking-at (looking c)) inv.1 inv.2
+order-c-requires c = let inv = c.walk.invariant in edges_fit (looking-at (looking c)) inv.1 inv.2
 
 pub next-m-requires : goal.next-m-requires
-next-m-requires c = let inv = c.loop-first.invariant in first_next (looking-at (looking c.before)) inv.1 inv.2
+next-m-requires c = let inv = c.walk.invariant in first_next (looking-at (looking c.before)) inv.1 inv.2
 
 pub next-n-requires : goal.next-n-requires
 next-n-requires c =
     let pre = c.requires in
-    (pre.1, pre.2, c.loop-first.invariant.2)
+    (pre.1, pre.2, c.walk.invariant.2)
 
 pub here-here-requires : goal.here-here-requires
 here-here-requires c =
-    corners-fit (looking-at (looking c.before.before.before)) c.loop-first.invariant.1 c.loop-first.invariant.2
+    corners-fit (looking-at (looking c.before.before.before)) c.walk.invariant.1 c.walk.invariant.2
 
 -- the walk after the step
 steps : (c : After-next-n) (end : Bool) →
     let args = c.args in
     At args.a.now (image args.b.now) (walk_of c.next-m.result c.next-n.result end)
 steps c end =
-    let inv = c.loop-first.invariant in
+    let inv = c.walk.invariant in
     sides-at (looking-at (looking c.before.before.before)) inv.1 inv.2 (result-is w64 c.order-c.type_inv c.order-c.ensures)
     c.next-m.result c.next-n.result c.next-m.ensures.0 c.next-n.ensures.0
 
@@ -115,9 +91,9 @@ advances : (c : After-next-n) →
     let m = c.next-m.result in
     let n = c.next-n.result in
     walk_of m n (finished (points args.a.now) m.at (points (image args.b.now)) n.at)
-    ≡ advanced (points args.a.now) (points (image args.b.now)) (walk_of c.loop-first.s c.loop-first.t false)
+    ≡ advanced (points args.a.now) (points (image args.b.now)) (walk_of c.walk.s c.walk.t false)
 advances c =
-    let inv = c.loop-first.invariant in
+    let inv = c.walk.invariant in
     sides-advanced (looking-at (looking c.before.before.before)) inv.1 inv.2
     (result-is w64 c.order-c.type_inv c.order-c.ensures)
     c.next-m.result c.next-n.result c.next-m.ensures.0 c.next-n.ensures.0 refl
@@ -125,14 +101,14 @@ advances c =
 first_step : (c : After-next-n) →
     let args = c.args in
     c.next-m.result.at
-    ≡ Places.passed (edges (points args.a.now)) c.loop-first.s.at (edges (points (image args.b.now))) c.loop-first.t.at
+    ≡ Places.passed (edges (points args.a.now)) c.walk.s.at (edges (points (image args.b.now))) c.walk.t.at
 unfolding advanced passed
 first_step c = ap (λ (w : Walk). w.i) (advances c)
 
 second-step : (c : After-next-n) →
     let args = c.args in
     c.next-n.result.at
-    ≡ Places.passed (edges (points (image args.b.now))) c.loop-first.t.at (edges (points args.a.now)) c.loop-first.s.at
+    ≡ Places.passed (edges (points (image args.b.now))) c.walk.t.at (edges (points args.a.now)) c.walk.s.at
 unfolding advanced passed
 second-step c = ap (λ (w : Walk). w.j) (advances c)
 
@@ -144,10 +120,10 @@ here-there-requires c =
 leaves : (c : After-here-there) →
     let args = c.args in
     at c.here-here.result
-    ≡ here (points args.a.now) (points (image args.b.now)) (walk_of c.loop-first.s c.loop-first.t false)
+    ≡ here (points args.a.now) (points (image args.b.now)) (walk_of c.walk.s c.walk.t false)
 leaves c =
-    c.here-here.ensures ∙ sides-here (looking-at (looking c.before.before.before.before.before)) c.loop-first.invariant.1
-    c.loop-first.invariant.2
+    c.here-here.ensures ∙ sides-here (looking-at (looking c.before.before.before.before.before)) c.walk.invariant.1
+    c.walk.invariant.2
 
 arrives : (c : After-here-there) (end : Bool) →
     let args = c.args in
@@ -165,23 +141,16 @@ near c = (
 
 pub rests-requires : goal.rests-requires
 rests-requires c = let both = near c in
-    (c.loop-first.invariant.3, small-wide both.0, small-wide both.1)
-
-pub seen-requires : goal.seen-requires
-seen-requires c = tt
+    (c.walk.invariant.3, small-wide both.0, small-wide both.1)
 
 pub returns-then-rests : goal.returns-then-rests
-returns-then-rests c =
-    let is = c.seen.ensures in (
-      subst (Small 4194304) (sym is.1) (small-wide (near c.before.before.before).0),
-      record {
-        found-is = λ h. subst (Stopped _) (sym is.1)
-            (looking-corner (looking c.before.before.before.before.before.before.before.before) refl
-            (advances c.before.before.before.before.before) (leaves c.before.before.before) (arrives c.before.before.before _)
-            c.requires.4 (sym c.rests.ensures ∙ c.if-rests.true));
-        none_is = λ h. absurd (true≢false (sym is.0 ∙ h));
-      },
-    )
+returns-then-rests c = (
+  subst (Small 4194304) (sym c.seen.ensures) (small-wide (near c.before.before.before).0),
+  subst (Stopped _) (sym c.seen.ensures)
+      (looking-corner (looking c.before.before.before.before.before.before.before.before) refl
+      (advances c.before.before.before.before.before) (leaves c.before.before.before) (arrives c.before.before.before _)
+      c.requires.4 (sym c.rests.ensures ∙ c.if-rests.true)),
+)
 
 pub crosses-requires : goal.crosses-requires
 crosses-requires c = let both = near c.before.before in (small-wide both.0, small-wide both.1)
@@ -189,25 +158,19 @@ crosses-requires c = let both = near c.before.before in (small-wide both.0, smal
 pub across-requires : goal.across-requires
 across-requires c = near c.before.before.before.before
 
-pub seen-requires-then-crosses : goal.seen-requires-then-crosses
-seen-requires-then-crosses c = tt
-
 pub returns-then-crosses : goal.returns-then-crosses
 returns-then-crosses c =
     let both = near c.before.before.before.before.before.before in
-    let is = c.seen-then-crosses.ensures.1 ∙ c.across.ensures in (
+    let is = c.seen-then-crosses.ensures ∙ c.across.ensures in (
       subst (Small 4194304) (sym is) (record {
         small-x = within-neg (within-add both.1.small-y (within-neg both.0.small-y));
         small-y = within-add both.1.small-x (within-neg both.0.small-x);
       }),
-      record {
-        found-is = λ h. subst (Stopped _) (sym is)
-            (looking-edge (looking c.before.before.before.before.before.before.before.before.before.before.before) refl
-            (advances c.before.before.before.before.before.before.before.before) (leaves c.before.before.before.before.before.before)
-            (arrives c.before.before.before.before.before.before _)
-            (sym c.crosses.ensures ∙ c.if-crosses.true));
-        none_is = λ h. absurd (true≢false (sym c.seen-then-crosses.ensures.0 ∙ h));
-      },
+      subst (Stopped _) (sym is)
+          (looking-edge (looking c.before.before.before.before.before.before.before.before.before.before.before) refl
+          (advances c.before.before.before.before.before.before.before.before) (leaves c.before.before.before.before.before.before)
+          (arrives c.before.before.before.before.before.before _)
+          (sym c.crosses.ensures ∙ c.if-crosses.true)),
     )
 
 pub overflow_add-m : goal.overflow_add-m
@@ -217,8 +180,8 @@ overflow_add-m c =
     omega (arith, image-few _ _ c.requires.0 c.requires.1)
 
 -- neither place at hand passes
-fails : (c : After-struct_known-in-loop-first-2-1) →
-    let back = at c.loop-first.back in
+fails : (c : Else-crosses) →
+    let back = at c.walk.back in
     (rests back (at c.here-here.result) (at c.here-there.result) ≡ false)
     × (crosses (at c.here-here.result) (at c.here-there.result) ≡ false)
 fails c = (
@@ -226,35 +189,19 @@ fails c = (
   sym c.crosses.ensures ∙ c.if-crosses.false,
 )
 
-pub seen-requires-then-m-n : goal.seen-requires-then-m-n
-seen-requires-then-m-n c = tt
-
 pub returns-then-m-n : goal.returns-then-m-n
-returns-then-m-n c =
-    let is = c.seen-then-m-n.ensures in
-    let at-first = c.before.before.before.before.before.before.before.before.before.before.before.before.before.before in
-    let over = all-passed _ _ _ _ c.next-m.ensures.1.at_in c.next-n.ensures.1.at_in
-    (c.if-m-n.true ∙ image-sides c.side_at-s.ensures.1
-    c.side_at-t.ensures.1) in (
-      subst (Small 4194304) (sym is.1)
-          (small-wide (here-near
-          (placed at-first.before.before.before.before.before) (first-here at-first))),
-      record {
-        found-is = λ h. absurd (false≢true (sym is.0 ∙ h));
-        none_is = λ h k below moved. subst (Nowhere _ k) (sym is.1)
-            (looking-end (c.loop-first.invariant.0 k below moved) refl
-            (advances c.before.before.before.before.before.before.before.before.before.before)
-            (leaves c.before.before.before.before.before.before.before.before)
-            (arrives c.before.before.before.before.before.before.before.before _) (fails c.before.before).0
-            (fails c.before.before).1 over
-            (first-here at-first ∙ ap (here _ _) moved ∙ corner-here _ _
-            (starts at-first.before.before.before.before.before) k below));
-      },
-    )
+returns-then-m-n c = λ k below moved.
+    looking-end (c.walk.invariant.0 k below moved) refl
+    (advances (goal.at.returns-then-m-n c).After-next-n)
+    (leaves (goal.at.returns-then-m-n c).After-here-there)
+    (arrives (goal.at.returns-then-m-n c).After-here-there _) (fails (goal.at.returns-then-m-n c).Else-crosses).0
+    (fails (goal.at.returns-then-m-n c).Else-crosses).1
+    (all-passed _ _ _ _ c.next-m.ensures.1.at_in c.next-n.ensures.1.at_in
+    (c.if-m-n.true ∙ image-sides c.side_at-s.ensures.1 c.side_at-t.ensures.1))
 
-pub loop-first-smaller : goal.loop-first-smaller
-loop-first-smaller c =
-    let inv = c.loop-first.invariant in
+pub walk-smaller : goal.walk-smaller
+walk-smaller c =
+    let inv = c.walk.invariant in
     let args = c.args in
     let E = edges (points args.a.now) in
     let F = edges (points (image args.b.now)) in
@@ -269,18 +216,19 @@ loop-first-smaller c =
       inv.2.at_in,
     )))
 
-pub loop-first-preserved : goal.loop-first-preserved
-loop-first-preserved c =
+pub walk-preserved : goal.walk-preserved
+walk-preserved c =
     let args = c.args in
     let on = some_left _ _ c.next-m.result.at c.next-n.result.at
     (λ e. c.if-m-n.false (e ∙ sym (image-sides c.side_at-s.ensures.1
     c.side_at-t.ensures.1))) in (
       λ k below moved. subst (λ (o : Bool). Looking args.a.now (image args.b.now) k
           (walk_of c.next-m.result c.next-n.result o) (at c.here-here.result)) on
-          (looking-more (c.loop-first.invariant.0 k below moved) refl
+          (looking-more (c.walk.invariant.0 k below moved) refl
           (advances c.before.before.before.before.before.before.before.before.before)
           (leaves c.before.before.before.before.before.before.before) (arrives c.before.before.before.before.before.before.before _)
-          (fails c.before).0 (fails c.before).1),
+          (fails (goal.at.walk-preserved c).Else-crosses).0
+          (fails (goal.at.walk-preserved c).Else-crosses).1),
       c.next-m.ensures.1,
       c.next-n.ensures.1,
       small-wide (near c.before.before.before.before.before.before.before).0,

@@ -12,13 +12,13 @@ use Rattle.calipers.specs.Walk.{begun, stepped}
 use Rattle.clearance.proofs.Looking.{Looking}
 use Rattle.clearance.proofs.facing.look.Given as goal
 
-abbrev pub invariant-loop-first : goal.invariant-loop-first
-invariant-loop-first l =
+abbrev pub invariant-walk : goal.invariant-walk
+invariant-walk l =
     ((k : ℕ) → k < length (vector_sum (points l.a) (points (image l.b)))
     → record { i = l.i; j = l.j; over = false } ≡ stepped (points l.a) (points (image l.b)) k begun
     → Looking l.a (image l.b) k (walk_of l.s l.t false) (at l.back))
     × Carried l.a l.s × Carried (image l.b) l.t × Small 4194304 (at l.back)
 
-abbrev pub decreases-loop-first : goal.decreases-loop-first
-decreases-loop-first l =
+abbrev pub decreases-walk : goal.decreases-walk
+decreases-walk l =
     length (edges (points l.a)) - l.s.at + (length (edges (points (image l.b))) - l.t.at)

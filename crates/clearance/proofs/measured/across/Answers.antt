@@ -3,15 +3,13 @@ use mathlib.Core.Path.{◌≡◌, sym, ◌∙◌, ap, ap₂}
 use Prim.Native.Nat.{ℕ, ◌*◌, ◌<◌}
 use native.Mathlib.Omega.{arith}
 use borrow.Author.Tests.{ltb-true}
-use lib.Dec.{lit≤}
 use lib.IntN.{pos, nat_abs}
 use lib.ListN.{length}
 use mir.Syntax.{w64}
 use mir.Val.{to_z, of_z}
-use Rattle.integer.specs.Bound.{Within, within-add, within-neg, within-mul, within-widen}
 use Rattle.integer.specs.Machine.{result-is}
 use Rattle.integer.specs.Order.{lt-lt_z}
-use Rattle.plane.specs.Point.{Point, points, corner, ◌⊖◌}
+use Rattle.plane.specs.Point.{points, corner, ◌⊖◌}
 use Rattle.plane.specs.Turn.{cross, turn-cross}
 use Rattle.plane.specs.Shape.{next}
 use Rattle.plane.specs.Measure.{squared, edge_squared, root_below}
@@ -60,15 +58,6 @@ turn_is c =
     ∙ ap₂ cross (c.step-edge.ensures ∙ ap₂ ◌⊖◌ (end_is c.before.before.before.before) c.corner_at-from.ensures)
     (c.step.ensures ∙ ap₂ ◌⊖◌ c.corner_at.ensures c.corner_at-from.ensures) ∙ sym (turn-cross _ _ _))
 
-product_small : {e f : Point} → Small 4194304 e → Small 4194304 f → Within 4611686018427387904 (cross e f)
-unfolding cross
-product_small s t = within-widen (lit≤ tt)
-    (within-add (within-mul s.small-x t.small-y) (within-neg (within-mul s.small-y t.small-x)))
-
-pub size-turn-requires : goal.size-turn-requires
-size-turn-requires c = let both = steps-small c.before in
-    rw (result-is w64 c.cross.type_inv c.cross.ensures) (product_small both.0 both.1)
-
 pub squared-requires : goal.squared-requires
 squared-requires c = step-edge-requires c.before.before.before.before.before
 
@@ -97,8 +86,8 @@ root_of_fraction-requires c = record { positive = positive c }
 
 pub returns : goal.returns
 returns c =
-    let turns = c.size-turn.ensures ∙ ap nat_abs (turn_is c.before.before.before.before) in
-    let t = c.size-turn.result in
+    let turns = c.unsigned_abs-turn.ensures.value ∙ ap nat_abs (turn_is c.before.before.before.before) in
+    let t = c.unsigned_abs-turn.result in
     let q = c.magnitude-squared.result in
     let root = rounded-unique (t * t) q (positive c.before) c.root_of_fraction.result
     c.root_of_fraction.ensures.reached c.root_of_fraction.ensures.next-above in

@@ -17,7 +17,7 @@ use Rattle.contact.specs.Share.{is_beside}
 use Rattle.contact.proofs.theory.Sides.{small-place}
 use Rattle.contact.proofs.theory.Beyond.{grown-shape, beside-apart, way-small}
 use Rattle.contact.proofs.beyond.is_beyond.Goals as goal
-use Rattle.contact.proofs.beyond.is_beyond.Goals.{After-grown_extent-span, After-step-along, Else-is_beside-2, Start}
+use Rattle.contact.proofs.beyond.is_beyond.Goals.{After-grown_extent-span, After-step-along, then-is_beside, else-is_beside}
 
 -- a direction that shows it
 shows : (c : After-grown_extent-span) (d : Point) → let args = c.args in
@@ -27,21 +27,20 @@ shows c d k =
     let s = grown-shape _ _ c.requires.0.shape.some c.requires.1.shape.some in
     beside-apart _ s.some c.grown_extent-span.ensures.extends _ _ s d k
 
-pub returns-then-is_beside : goal.returns-then-is_beside
-returns-then-is_beside c = λ r. shows c.before.before _ (sym c.is_beside.ensures ∙ c.if-is_beside.true)
-
 pub returns-then-is_beside-2 : goal.returns-then-is_beside-2
-returns-then-is_beside-2 c = λ r. shows c.before.before.before.before _ (sym c.is_beside-2.ensures ∙ c.if-is_beside-2.true)
-
-abbrev start_of : Else-is_beside-2 → Start
-start_of c = c.before.before.before.before.before
+returns-then-is_beside-2 c = λ r.
+    let here = (goal.at.returns-then-is_beside-2 c).After-grown_extent-span in
+    elim c.if-is_beside.branch [
+      | then-is_beside w ↦ shows here _ (sym c.is_beside.ensures ∙ w.if-is_beside.true)
+      | else-is_beside w ↦ shows here _ (sym w.is_beside-else-is_beside.ensures ∙ sym w.value-is ∙ r)
+    ]
 
 pub step-along-requires : goal.step-along-requires
-step-along-requires c = let places = (start_of c).requires.2 in (small-place places.from-near, small-place places.to-near)
+step-along-requires c = let places = c.requires.2 in (small-place places.from-near, small-place places.to-near)
 
 -- the way is small, and so is its normal
 along : (c : After-step-along) → Small (2 ^ 21) (at c.step-along.result)
-along c = let places = (start_of c.before).requires.2 in way-small places.from-near places.to-near c.step-along.ensures
+along c = let places = c.requires.2 in way-small places.from-near places.to-near c.step-along.ensures
 
 read : {z : ℤ} → Within (2 ^ 21) z → Within (2 ^ 21) (to_z w32 (of_z w32 z))
 read {z} h = subst (λ (x : ℤ). Within (2 ^ 21) x) (sym (to_z-of_z {w = w32} {z = z} (within-fits tt h))) h
@@ -49,22 +48,23 @@ read {z} h = subst (λ (x : ℤ). Within (2 ^ 21) x) (sym (to_z-of_z {w = w32} {
 read_back : {z : ℤ} → Within (2 ^ 21) z → Within (2 ^ 21) (to_z w32 (of_z w32 (pos 0 -ℤ to_z w32 (of_z w32 z))))
 read_back h = subst (λ (x : ℤ). Within (2 ^ 21) x) (sym (machine-is (search (machine, bounded) depth 40) tt ∙ +ℤ_idl _)) (within-neg h)
 
-pub overflow_sub-along : goal.overflow_sub-along
-overflow_sub-along c = let h = (along (goal.at.overflow_sub-along c).After-step-along).small-y in machine-fits
+pub overflow_sub-across : goal.overflow_sub-across
+overflow_sub-across c = let h = (along (goal.at.overflow_sub-across c).After-step-along).small-y in machine-fits
     (search (machine, bounded) depth 40) tt
 
-pub is_beside-requires-3 : goal.is_beside-requires-3
-is_beside-requires-3 c =
+pub is_beside-requires-else-is_beside-2 : goal.is_beside-requires-else-is_beside-2
+is_beside-requires-else-is_beside-2 c =
     let small = c.grown_extent-span.ensures.small in (
       small.0,
       small.1,
       record {
-        small-x = read_back (along (goal.at.is_beside-requires-3 c).After-step-along).small-y;
+        small-x = read_back (along (goal.at.is_beside-requires-else-is_beside-2 c).After-step-along).small-y;
         small-y = read
-            (along (goal.at.is_beside-requires-3 c).After-step-along).small-x;
+            (along (goal.at.is_beside-requires-else-is_beside-2 c).After-step-along).small-x;
       },
       c.requires.2,
     )
 
-pub returns : goal.returns
-returns c = λ r. shows (goal.at.returns c).After-grown_extent-span _ (sym c.is_beside-3.ensures ∙ r)
+pub returns-else-is_beside-2 : goal.returns-else-is_beside-2
+returns-else-is_beside-2 c = λ r.
+    shows (goal.at.returns-else-is_beside-2 c).After-grown_extent-span _ (sym c.is_beside-else-is_beside-2.ensures ∙ r)

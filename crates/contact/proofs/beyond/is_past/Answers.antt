@@ -39,5 +39,5 @@ returns-then-far-dot c =
     ap₂ lt_z (reach-is c.before.before.before) (result-is w64 c.dot-then-far-dot.type_inv c.dot-then-far-dot.ensures)
     ∙ by_first _ (sym (far-is c.before.before) ∙ c.if-far-dot.true)
 
-pub returns : goal.returns
-returns c = by_first _ (sym (far-is c.before) ∙ c.if-far-dot.false)
+pub returns-else-far-dot : goal.returns-else-far-dot
+returns-else-far-dot c = c.if-far-dot.false ∙ by_first _ (sym (far-is c.before) ∙ c.if-far-dot.false)

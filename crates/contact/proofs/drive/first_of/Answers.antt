@@ -18,18 +18,18 @@ use Rattle.motion.proofs.theory.Meeting.{first-on-way}
 use Rattle.contact.proofs.theory.Sides.{small-place}
 use Rattle.contact.proofs.theory.Told.{whole_words, length-bounded, never-told, at_told}
 use Rattle.contact.proofs.drive.first_of.Goals as goal
-use Rattle.contact.proofs.drive.first_of.Goals.{After-exceed, After-lowest-c, After-magnitude-length}
+use Rattle.contact.proofs.drive.first_of.Goals.{After-exceeds, After-lowest-c, After-magnitude-length}
 
-pub exceed-requires : goal.exceed-requires
-exceed-requires c = (whole_words _ _ c.arrivals-way.ensures.on-way).0
+pub exceeds-requires : goal.exceeds-requires
+exceeds-requires c = (whole_words _ _ c.arrivals-way.ensures.on-way).0
 
 -- the way is apart as the test says
-apart-is : (c : After-exceed) → let args = c.args in
-    apart (at args.t ∷ at args.u ∷ []) (points args.list.now) ≡ c.exceed.result
-apart-is c = c.arrivals-way.ensures.apart-is ∙ sym c.exceed.ensures
+apart-is : (c : After-exceeds) → let args = c.args in
+    apart (at args.t ∷ at args.u ∷ []) (points args.list.now) ≡ c.exceeds.result
+apart-is c = c.arrivals-way.ensures.apart-is ∙ sym c.exceeds.ensures
 
-pub returns-then-exceed : goal.returns-then-exceed
-returns-then-exceed c = never-told _ _ _ (apart-is c.before ∙ c.if-exceed.true)
+pub returns-then-exceeds : goal.returns-then-exceeds
+returns-then-exceeds c = never-told _ _ _ (apart-is c.before ∙ c.if-exceeds.true)
 
 pub lowest-c-requires : goal.lowest-c-requires
 lowest-c-requires c = (whole_words _ _ c.arrivals-way.ensures.on-way).1
@@ -46,7 +46,7 @@ magnitude-length-requires c = rw (result-is w64 c.squared.type_inv c.squared.ens
 told : (c : After-lowest-c) → let args = c.args in
     fraction c.lowest-c.result ≡ contact (at args.t) (at args.u) (points args.list.now)
 told c =
-    c.lowest-c.ensures ∙ c.arrivals-way.ensures.first-is (apart-is c.before.before.before ∙ c.if-exceed.false)
+    c.lowest-c.ensures ∙ c.arrivals-way.ensures.first-is (apart-is c.before.before.before ∙ c.if-exceeds.false)
 
 length-is : (c : After-magnitude-length) → let args = c.args in
     pos c.magnitude-length.result ≡ squared (at args.t) (at args.u)
@@ -64,5 +64,5 @@ pub returns : goal.returns
 returns c =
     let f = c.lowest-c.result in
     ap (λ (w : ℕ). pos 1 ∷ pos f.numerator ∷ pos f.denominator ∷ pos w ∷ []) c.millimetres.ensures
-    ∙ at_told _ _ _ (apart-is c.before.before.before.before.before.before ∙ c.if-exceed.false)
+    ∙ at_told _ _ _ (apart-is c.before.before.before.before.before.before ∙ c.if-exceeds.false)
     f.numerator f.denominator c.magnitude-length.result (told c.before.before.before) (length-is c.before)

@@ -1,4 +1,4 @@
--- `arrivals` meets its contract. The invariant: `there` and `back` are the last entries up to i edges; the measure is n - i.
+-- `arrivals` meets its contract. The invariant: `there` and `back` are the last entries up to i edges.
 use mathlib.Core.Path.{◌≡◌, refl, sym, ◌∙◌, ap₂, subst}
 use Prim.Native.Nat.{ℕ, ◌^◌, ◌<◌}
 use native.Mathlib.Omega.{arith}
@@ -26,18 +26,17 @@ start-back-requires c = let pre = c.requires in (pre.0, turned pre.1)
 
 pub loop-i-init : goal.loop-i-init
 loop-i-init c = (
-  omega arith,
-  c.count-n.ensures,
+  c.count-i-end.ensures,
   record { there-is = c.start-there.ensures; back_is = c.start-back.ensures },
 )
 
 pub edge_past-a-requires : goal.edge_past-a-requires
 edge_past-a-requires c =
-    (c.requires.0, omega (arith, c.loop-i.invariant.1), c.requires.1.from-near)
+    (c.requires.0, omega arith, c.requires.1.from-near)
 
 pub edge_past-b-requires : goal.edge_past-b-requires
 edge_past-b-requires c =
-    (c.requires.0, omega (arith, c.loop-i.invariant.1), c.requires.1.to-near)
+    (c.requires.0, omega arith, c.requires.1.to-near)
 
 bounded : {z : ℤ} → mag z < 2 ^ 63 → Within 8_000_000_000_000 z → Within 8_000_000_000_000 (to_z w64 (of_z w64 z))
 bounded ok h = subst (λ (z : ℤ). Within 8_000_000_000_000 z) (sym (result-is w64 ok refl)) h
@@ -70,21 +69,17 @@ pub entering-requires-in-loop-i : goal.entering-requires-in-loop-i
 entering-requires-in-loop-i c =
     (bounded c.edge_past-b.type_inv c.edge_past-b.ensures.1, bounded c.edge_past-a.type_inv c.edge_past-a.ensures.1)
 
-pub loop-i-smaller : goal.loop-i-smaller
-loop-i-smaller c = omega arith
-
 pub loop-i-preserved : goal.loop-i-preserved
 loop-i-preserved c =
     let inv = c.loop-i.invariant in
     let args = c.args in
     let G = points args.list.now in (
-      omega arith,
-      inv.1,
+      inv.0,
       record {
-        there-is = c.later-there.ensures ∙ ap₂ later inv.2.there-is (c.entering.ensures
+        there-is = c.later-there.ensures ∙ ap₂ later inv.1.there-is (c.entering.ensures
             ∙ ap₂ entering (from_is c.before.before.before.before.before.before.before) (to_is c.before.before.before.before.before.before))
             ∙ wall-more (at args.t) (at args.u) G c.loop-i.i;
-        back_is = c.later-back.ensures ∙ ap₂ later inv.2.back_is (c.entering-in-loop-i.ensures
+        back_is = c.later-back.ensures ∙ ap₂ later inv.1.back_is (c.entering-in-loop-i.ensures
             ∙ ap₂ entering (to_is c.before.before.before.before.before.before) (from_is c.before.before.before.before.before.before.before))
             ∙ wall-more (at args.u) (at args.t) G c.loop-i.i;
       },
@@ -94,7 +89,7 @@ pub returns : goal.returns
 returns c =
     let inv = c.loop-i.invariant in
     let G = points c.args.list.now in
-    let all : c.loop-i.i ≡ length G = omega (arith, inv.0, inv.1) in
+    let all : c.loop-i.i ≡ length G = omega (arith, inv.0) in
     let found : BothWays = record { there = c.loop-i.there; back = c.loop-i.back } in
     all-met (at c.args.t) (at c.args.u) G c.requires.0.shape
-    (subst (λ (i : ℕ). Arrived (at c.args.t) (at c.args.u) G i found) all inv.2)
+    (subst (λ (i : ℕ). Arrived (at c.args.t) (at c.args.u) G i found) all inv.1)

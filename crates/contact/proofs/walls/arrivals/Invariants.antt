@@ -1,5 +1,4 @@
 use mathlib.Core.Path.{◌≡◌}
-use Prim.Native.Nat.{◌-◌, ◌≤◌}
 use lib.ListN.{length}
 use Rattle.plane.specs.Point.{points}
 use Rattle.polygon.specs.Point.{at}
@@ -8,7 +7,4 @@ use Rattle.contact.proofs.walls.arrivals.Given as goal
 
 abbrev pub invariant-loop-i : goal.invariant-loop-i
 invariant-loop-i l =
-    (l.i ≤ l.n) × (l.n ≡ length (points l.list)) × Arrived (at l.t) (at l.u) (points l.list) l.i (record { there = l.there; back = l.back })
-
-abbrev pub decreases-loop-i : goal.decreases-loop-i
-decreases-loop-i l = l.n - l.i
+    (l.i-end ≡ length (points l.list)) × Arrived (at l.t) (at l.u) (points l.list) l.i (record { there = l.there; back = l.back })

@@ -11,8 +11,8 @@ returns-then-count-ge3 c =
     wall-none (at c.args.t) (at c.args.u) (points c.args.list.now)
     (omega (arith, c.count.ensures))
 
-pub returns : goal.returns
-returns c =
+pub returns-else-count-ge3 : goal.returns-else-count-ge3
+returns-else-count-ge3 c =
     c.box_arrival.ensures
     ∙ wall-box (at c.args.t) (at c.args.u) (points c.args.list.now)
     (omega (arith, c.count.ensures))

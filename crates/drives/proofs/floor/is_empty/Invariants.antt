@@ -1,10 +1,6 @@
-use Prim.Native.Nat.{◌-◌}
-use lib.ListN.{length}
+use Rattle.journal.proofs.theory.Walk.{On}
 use Rattle.drives.specs.theory.Walked.{Bare}
 use Rattle.drives.proofs.floor.is_empty.Given as goal
 
-abbrev pub invariant-loop-floor : goal.invariant-loop-floor
-invariant-loop-floor l = Bare l.log l.floor l.p
-
-abbrev pub decreases-loop-floor : goal.decreases-loop-floor
-decreases-loop-floor l = length l.log - l.p
+abbrev pub invariant-loop-p : goal.invariant-loop-p
+invariant-loop-p l = On l.log (λ p. Bare l.log l.floor p) l.p-iterator

@@ -1,10 +1,6 @@
-use Prim.Native.Nat.{◌-◌, ◌≤◌}
 use Rattle.plane.specs.Point.{points}
 use Rattle.excess.proofs.Search.{Searched}
 use Rattle.excess.proofs.outermost.outermost.Given as goal
 
 abbrev pub invariant-loop-i : goal.invariant-loop-i
-invariant-loop-i l = (l.i ≤ l.n) × Searched (points l.new) (points l.old) l.i l.best
-
-abbrev pub decreases-loop-i : goal.decreases-loop-i
-decreases-loop-i l = l.n - l.i
+invariant-loop-i l = Searched (points l.new) (points l.old) l.i l.best

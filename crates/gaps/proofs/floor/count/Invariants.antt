@@ -1,10 +1,6 @@
-use Prim.Native.Nat.{◌-◌}
-use lib.ListN.{length}
+use Rattle.journal.proofs.theory.Walk.{On}
 use Rattle.gaps.proofs.theory.Steps.{Counting}
 use Rattle.gaps.proofs.floor.count.Given as goal
 
-abbrev pub invariant-loop-n : goal.invariant-loop-n
-invariant-loop-n l = Counting l.log l.floor l.n l.p
-
-abbrev pub decreases-loop-n : goal.decreases-loop-n
-decreases-loop-n l = length l.log - l.p
+abbrev pub invariant-loop-p : goal.invariant-loop-p
+invariant-loop-p l = On l.log (λ p. Counting l.log l.floor l.n p) l.p-iterator

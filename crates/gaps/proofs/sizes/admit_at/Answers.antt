@@ -3,11 +3,7 @@
 use mathlib.Core.Path.{◌≡◌, sym, ◌∙◌, ap, subst}
 use mathlib.Core.Bool.{Bool, true, false, cond}
 use mathlib.Core.List.{List, []}
-use Prim.Native.Nat.{◌≤◌}
-use native.Mathlib.Omega.{arith}
 use lib.IntN.{ℤ}
-use lib.ListN.{length}
-use lib.Seq.{length-take-le}
 use Rattle.plane.specs.Point.{points}
 use Rattle.plane.specs.Reply.{Row, NoneApply}
 use Rattle.plane.specs.Refusal.{Valid}
@@ -20,9 +16,9 @@ use Rattle.journal.specs.Survey.{record_at}
 use Rattle.journal.proofs.theory.Stepping.{here-valid}
 use Rattle.gaps.specs.Gap.{grown_of}
 use Rattle.gaps.specs.Search.{is_on, rows_at}
-use Rattle.gaps.proofs.theory.Read.{on-elsewhere, on-here, valid-fits}
+use Rattle.gaps.proofs.theory.Read.{on-elsewhere, on-here}
 use Rattle.gaps.proofs.sizes.admit_at.Goals as goal
-use Rattle.gaps.proofs.sizes.admit_at.Goals.{After-admit_grown, After-is_current, After-read_at-n, Start}
+use Rattle.gaps.proofs.sizes.admit_at.Goals.{After-admit_grown, After-is_current, Start}
 
 -- 6 and 7 of the record, and those that count, by whether the record is on the floor
 abbrev rows : Start → List Row
@@ -37,18 +33,12 @@ none-count : (vs : List Row) (t : Bool) → NoneApply vs → NoneApply (cond t v
 none-count vs true n = n
 none-count vs false n = tt
 
--- the numbers that were read are in the buffer
-fits : (c : After-read_at-n) → c.read_at-n.result ≤ length c.read_at-n.new.shape
-fits c =
-    let read = c.read_at-n.ensures in
-    omega (arith, read.1, read.2, valid-fits _ (here-valid c.requires.0))
-
 -- what was judged is the record
 judged : (c : After-admit_grown) →
     Judged (NoneApply (rows (goal.at.After-admit_grown c).Start)) (rows (goal.at.After-admit_grown c).Start) c.admit_grown.result
 unfolding grown_of
 judged c =
-    judged-by (ap (λ (l : List ℤ). size_rows (grown (points l) (points c.args.cart.now))) c.read_at-n.ensures.0)
+    judged-by (ap (λ (l : List ℤ). size_rows (grown (points l) (points c.args.cart.now))) c.read_at.ensures)
     c.admit_grown.ensures
 
 -- whether it is the latest of its name is whether it is on the floor
@@ -59,42 +49,29 @@ on-as c e =
     sym (on-here c.head_at.ensures _ c.if-head_at-floor.false) ∙ sym c.is_current.ensures ∙ e
 
 pub returns-then-head_at-floor : goal.returns-then-head_at-floor
-returns-then-head_at-floor c = (
-  judged-by (rows_are (goal.at.returns-then-head_at-floor c).Start (sym (on-elsewhere c.head_at.ensures _ c.if-head_at-floor.true)))
-      (passes tt),
-  c.requires.2,
-)
-
-pub slice_bounds-admit_grown-end : goal.slice_bounds-admit_grown-end
-slice_bounds-admit_grown-end c = fits (goal.at.slice_bounds-admit_grown-end c).After-read_at-n
-
-pub slice_bounds-admit_grown-end-2 : goal.slice_bounds-admit_grown-end-2
-slice_bounds-admit_grown-end-2 c =
-    sym (length-take-le _ c.read_at-n.new.shape (fits (goal.at.slice_bounds-admit_grown-end-2 c).After-read_at-n))
+returns-then-head_at-floor c =
+    judged-by (rows_are (goal.at.returns-then-head_at-floor c).Start (sym (on-elsewhere c.head_at.ensures _ c.if-head_at-floor.true)))
+    (passes tt)
 
 pub admit_grown-requires : goal.admit_grown-requires
 admit_grown-requires c =
     let pre = c.requires in
-    (subst Valid (sym c.read_at-n.ensures.0) (here-valid pre.0), pre.1)
+    (subst Valid (sym c.read_at.ensures) (here-valid pre.0), pre.1)
 
 pub returns-in_default : goal.returns-in_default
 returns-in_default c =
-    let args = c.args in (
-      passes (none-count (rows (goal.at.returns-in_default c).Start) (is_on args.floor args.log.now args.p)
-          ((judged (goal.at.returns-in_default c).After-admit_grown).valid c.in_default.is)),
-      c.read_at-n.ensures.1,
-    )
+    let args = c.args in
+    passes (none-count (rows (goal.at.returns-in_default c).Start) (is_on args.floor args.log.now args.p)
+    ((judged (goal.at.returns-in_default c).After-admit_grown).valid c.in_default.is))
 
-pub returns-then-not-is_current : goal.returns-then-not-is_current
-returns-then-not-is_current c = (
-  judged-by (rows_are (goal.at.returns-then-not-is_current c).Start
-      (on-as (goal.at.returns-then-not-is_current c).After-is_current (c.if-not-is_current.true))) (passes tt),
-  c.read_at-n.ensures.1,
-)
+pub returns-then-is_current : goal.returns-then-is_current
+returns-then-is_current c =
+    judged-by (rows_are (goal.at.returns-then-is_current c).Start (on-as
+    (goal.at.returns-then-is_current c).After-is_current c.if-is_current.true))
+    (turns-away ((judged (goal.at.returns-then-is_current c).After-admit_grown).no _ c.in-Err.is))
 
-pub returns : goal.returns
-returns c = (
-  judged-by (rows_are (goal.at.returns c).Start (on-as (goal.at.returns c).After-is_current (c.if-not-is_current.false)))
-      (turns-away ((judged (goal.at.returns c).After-admit_grown).no _ c.in-No.is)),
-  c.read_at-n.ensures.1,
-)
+pub returns-else-is_current : goal.returns-else-is_current
+returns-else-is_current c =
+    judged-by (rows_are (goal.at.returns-else-is_current c).Start (on-as
+    (goal.at.returns-else-is_current c).After-is_current c.if-is_current.false))
+    (passes tt)

@@ -1,38 +1,13 @@
 -- `push_next` meets its contract: the order of the two corners says which one is pushed, and what is read.
-use mathlib.Core.Path.{◌≡◌, sym, ◌∙◌, ap₂, subst}
-use Prim.Native.Nat.{◌^◌}
-use native.Mathlib.Omega.{arith}
-use mir.Syntax.{w32}
-use mir.Val.{to_z, of_z}
-use Rattle.integer.specs.Machine.{result-is}
-use Rattle.plane.specs.Point.{points, corner}
-use Rattle.plane.proofs.theory.lists.Flat.{points-length}
-use Rattle.polygon.specs.Point.{Small}
-use Rattle.sorting.specs.Order.{order, closed}
+use Rattle.std.proofs.Common.{◌+◌, ◌^◌, sym, ap, ap₂, subst, arith, Bool, cond, ℤ}
+use Rattle.polygon.specs.Point.{at, Small}
+use Rattle.sorting.specs.Order.{order}
 use Rattle.hull.specs.theory.Peak.{closed-small}
-use Rattle.hull.specs.theory.Reading.{stepped-first, stepped-second}
+use Rattle.hull.specs.theory.Reading.{sign-less, sign-equal, sign-greater, stepped-first, stepped-second}
 use Rattle.hull.proofs.chains.push_next.Goals as goal
-use Rattle.hull.proofs.chains.push_next.Goals.{After-order-c}
 
--- the order, as the code has it
-told : (c : After-order-c) → let args = c.args in
-    to_z w32 (of_z w32 c.order-c.result)
-    ≡ order args.up (corner (closed (points args.a.now)) args.i) (corner (closed (points args.b.now)) args.j)
-told c =
-    result-is w32 c.order-c.type_inv (c.order-c.ensures
-    ∙ ap₂ (order c.args.up) c.closed_at-p.ensures c.closed_at-q.ensures)
-
-pub closed_at-p-requires : goal.closed_at-p-requires
-closed_at-p-requires c = (omega (arith, c.requires.0.within), c.requires.0.some)
-
-pub closed_at-q-requires : goal.closed_at-q-requires
-closed_at-q-requires c = let pre = c.requires in (omega (arith, pre.1.within), pre.1.some)
-
-pub order-c-requires : goal.order-c-requires
-order-c-requires c = tt
-
-pub push-kept-requires : goal.push-kept-requires
-push-kept-requires c =
+pub push-requires : goal.push-requires
+push-requires c =
     let line = c.requires.0 in (
       c.requires.2,
       c.requires.3,
@@ -40,21 +15,17 @@ push-kept-requires c =
           (closed-small c.args.a.now line.near line.some c.args.i (omega (arith, line.within))),
     )
 
-pub overflow_add-result : goal.overflow_add-result
-overflow_add-result c =
-    omega (arith, c.requires.0.within, points-length c.args.a.now)
+pub push-requires-in-Equal : goal.push-requires-in-Equal
+push-requires-in-Equal c =
+    let line = c.requires.0 in (
+      c.requires.2,
+      c.requires.3,
+      subst (Small (2 ^ 21)) (sym c.closed_at-p.ensures)
+          (closed-small c.args.a.now line.near line.some c.args.i (omega (arith, line.within))),
+    )
 
-pub after-requires : goal.after-requires
-after-requires c =
-    omega (arith, c.requires.1.within, points-length c.args.b.now)
-
-pub returns-then-c-le0 : goal.returns-then-c-le0
-returns-then-c-le0 c =
-    stepped-first (told c.before.before.before.before.before) c.push-kept.ensures c.if-c-le0.true c.closed_at-p.ensures
-    c.after.ensures
-
-pub push-kept-requires-2 : goal.push-kept-requires-2
-push-kept-requires-2 c =
+pub push-requires-in-Greater : goal.push-requires-in-Greater
+push-requires-in-Greater c =
     let line = c.requires.1 in (
       c.requires.2,
       c.requires.3,
@@ -62,10 +33,22 @@ push-kept-requires-2 c =
           (closed-small c.args.b.now line.near line.some c.args.j (omega (arith, line.within))),
     )
 
-pub overflow_add-result-2 : goal.overflow_add-result-2
-overflow_add-result-2 c =
-    omega (arith, c.requires.1.within, points-length c.args.b.now)
+pub returns-in-Less : goal.returns-in-Less
+returns-in-Less c =
+    let z : ℤ = order c.args.up (at c.closed_at-p.result) (at c.closed_at-q.result) in
+    let sign = sign-less z c.in-Less.ensures in
+    stepped-first (ap₂ (order c.args.up) c.closed_at-p.ensures c.closed_at-q.ensures) c.push.ensures sign.0 c.closed_at-p.ensures
+    (sym (ap (λ (t : Bool). cond t (c.args.j + 1) c.args.j) sign.1))
 
-pub returns : goal.returns
-returns c =
-    stepped-second (told c.before.before.before.before) c.push-kept-2.ensures c.if-c-le0.false c.closed_at-q.ensures
+pub returns-in-Equal : goal.returns-in-Equal
+returns-in-Equal c =
+    let z : ℤ = order c.args.up (at c.closed_at-p.result) (at c.closed_at-q.result) in
+    let sign = sign-equal z c.in-Equal.ensures in
+    stepped-first (ap₂ (order c.args.up) c.closed_at-p.ensures c.closed_at-q.ensures) c.push-in-Equal.ensures sign.0 c.closed_at-p.ensures
+    (sym (ap (λ (t : Bool). cond t (c.args.j + 1) c.args.j) sign.1))
+
+pub returns-in-Greater : goal.returns-in-Greater
+returns-in-Greater c =
+    let z : ℤ = order c.args.up (at c.closed_at-p.result) (at c.closed_at-q.result) in
+    stepped-second (ap₂ (order c.args.up) c.closed_at-p.ensures c.closed_at-q.ensures) c.push-in-Greater.ensures
+    (sign-greater z c.in-Greater.ensures) c.closed_at-q.ensures

@@ -1,5 +1,4 @@
--- `rest` meets its contract. The invariant: the stack, and the corners from i on, still give what the scan of all gives; the measure is
--- what is left.
+-- `rest` meets its contract. The invariant: the stack, and the corners from i on, still give what the scan of all gives.
 use mathlib.Core.Path.{◌≡◌, sym, ap, subst}
 use mathlib.Core.List.{◌∷◌}
 use Prim.Native.Nat.{◌+◌, ◌-◌, ◌^◌}
@@ -44,18 +43,9 @@ push-kept-requires c =
           c.loop-i.i (omega (arith, line.within, c.loop-i-test.true))),
     )
 
-pub overflow_add-i : goal.overflow_add-i
-overflow_add-i c = omega arith
-
-pub loop-i-smaller : goal.loop-i-smaller
-loop-i-smaller c = omega arith
-
 pub loop-i-preserved : goal.loop-i-preserved
 loop-i-preserved c =
-    scanning-one c.loop-i.invariant (next c.before.before) c.push-kept.ensures
-
-pub shape_of-buf : goal.shape_of-buf
-shape_of-buf c = c.loop-i.invariant.same
+    scanning-one c.loop-i.invariant (next (goal.at.loop-i-preserved c).After-closed_at) c.push-kept.ensures
 
 pub returns : goal.returns
 returns c =

@@ -8,6 +8,3 @@ abbrev pub invariant-loop-i : goal.invariant-loop-i
 invariant-loop-i l =
     Scanning l.initial.buf l.k (run (closed (points l.list)) l.from (l.end - l.from)) (run (closed (points l.list)) l.i (l.end - l.i)) l.buf
     l.kept
-
-abbrev pub decreases-loop-i : goal.decreases-loop-i
-decreases-loop-i l = l.end - l.i

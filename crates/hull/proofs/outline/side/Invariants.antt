@@ -1,4 +1,3 @@
-use Prim.Native.Nat.{◌-◌, ◌<◌}
 use Rattle.plane.specs.Point.{points}
 use Rattle.sorting.specs.Buffer.{route}
 use Rattle.hull.specs.theory.Stack.{Scanning}
@@ -6,7 +5,4 @@ use Rattle.hull.proofs.outline.side.Given as goal
 
 abbrev pub invariant-loop-i : goal.invariant-loop-i
 invariant-loop-i l =
-    (l.i < l.n) × Scanning l.initial.buf 0 (route l.up (points l.list) l.n 0) (route l.up (points l.list) l.n l.i) l.buf l.kept
-
-abbrev pub decreases-loop-i : goal.decreases-loop-i
-decreases-loop-i l = l.n - l.i
+    Scanning l.initial.buf 0 (route l.up (points l.list) l.n 0) (route l.up (points l.list) l.n l.i) l.buf l.kept

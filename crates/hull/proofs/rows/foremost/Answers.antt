@@ -1,34 +1,31 @@
 -- `foremost` meets its contract: the order says which one it is.
-use mathlib.Core.Path.{◌≡◌, sym, ◌∙◌, ap, ap₂}
-use mathlib.Core.Bool.{Bool, cond}
-use lib.IntN.{ℤ, pos}
-use lib.Signed.{le_z}
-use mir.Syntax.{w32}
-use mir.Val.{to_z, of_z}
-use Rattle.integer.specs.Machine.{result-is}
+use Rattle.std.proofs.Common.{◌≡◌, sym, ◌∙◌, ap, ap₂, Bool, cond, ℤ, pos}
+use Rattle.std.specs.Int.Signed.{le_z}
 use Rattle.plane.specs.Point.{points, corner}
 use Rattle.polygon.specs.Point.{at}
-use Rattle.sorting.specs.Order.{foremost}
+use Rattle.sorting.specs.Order.{order, foremost}
 use Rattle.sorting.specs.theory.Ahead.{order-foremost}
+use Rattle.hull.specs.theory.Reading.{sign-greater, sign-other}
 use Rattle.hull.proofs.rows.foremost.Goals as goal
 use Rattle.hull.proofs.rows.foremost.Goals.{After-order}
 
--- what the test makes of the two corners
-told : (c : After-order) →
-    let args = c.args in
-    cond (le_z (to_z w32 (of_z w32 c.order.result)) (pos 0)) (at c.corner_at-p.result) (at c.corner_at-q.result)
-    ≡ foremost args.up (corner (points args.a.now) args.i) (corner (points args.b.now) args.j)
+-- what the order makes of the two corners
+told : (c : After-order) → let p = at c.corner_at-p.result in
+    let q = at c.corner_at-q.result in
+    cond (le_z (order c.args.up p q) (pos 0)) p q
+    ≡ foremost c.args.up (corner (points c.args.a.now) c.args.i) (corner (points c.args.b.now) c.args.j)
 told c =
-    let up = c.args.up in
-    ap (λ (z : ℤ). cond (le_z z (pos 0)) (at c.corner_at-p.result) (at c.corner_at-q.result))
-    (result-is w32 c.order.type_inv c.order.ensures)
-    ∙ order-foremost up (at c.corner_at-p.result) (at c.corner_at-q.result)
-    ∙ ap₂ (foremost up) c.corner_at-p.ensures c.corner_at-q.ensures
+    order-foremost c.args.up (at c.corner_at-p.result) (at c.corner_at-q.result)
+    ∙ ap₂ (foremost c.args.up) c.corner_at-p.ensures c.corner_at-q.ensures
 
-pub returns-then-order-le0 : goal.returns-then-order-le0
-returns-then-order-le0 c =
-    sym (ap (λ (t : Bool). cond t (at c.corner_at-p.result) (at c.corner_at-q.result)) c.if-order-le0.true) ∙ told c.before
+pub returns-in-Greater : goal.returns-in-Greater
+returns-in-Greater c =
+    let z : ℤ = order c.args.up (at c.corner_at-p.result) (at c.corner_at-q.result) in
+    sym (ap (λ (t : Bool). cond t (at c.corner_at-p.result) (at c.corner_at-q.result)) (sign-greater z c.in-Greater.ensures))
+    ∙ told (goal.at.returns-in-Greater c).After-order
 
-pub returns : goal.returns
-returns c =
-    sym (ap (λ (t : Bool). cond t (at c.corner_at-p.result) (at c.corner_at-q.result)) c.if-order-le0.false) ∙ told c.before
+pub returns-in_default : goal.returns-in_default
+returns-in_default c =
+    let z : ℤ = order c.args.up (at c.corner_at-p.result) (at c.corner_at-q.result) in
+    sym (ap (λ (t : Bool). cond t (at c.corner_at-p.result) (at c.corner_at-q.result))
+    (sign-other z (λ e. c.in_default.not-Greater (c.order.ensures ∙ e)))) ∙ told (goal.at.returns-in_default c).After-order

@@ -1,40 +1,30 @@
 -- `settle` meets its contract. The invariant: dropping down to kept corners pushes the same; the measure is how many are kept.
-use mathlib.Core.Path.{refl, sym, ◌∙◌, ap}
-use native.Mathlib.Omega.{arith}
-use lib.IntN.{ℤ, pos}
-use lib.Signed.{lt_z}
-use mir.Syntax.{w64}
+use Rattle.std.proofs.Common.{◌≡◌, sym, ◌∙◌, ap, ℤ, pos, true, false, to_z, of_z}
+use Rattle.std.specs.Int.{w64}
+use Rattle.std.specs.Int.Signed.{le_z, lt_z}
 use Rattle.integer.specs.Machine.{result-is}
+use Rattle.integer.specs.Order.{le_z-true, le_z-false, le-lt_z, lt-lt_z}
 use Rattle.hull.specs.theory.Stack.{settle-short, settle-keep, settle-drop}
 use Rattle.hull.proofs.scan.settle.Goals as goal
 
-pub loop-kept-init : goal.loop-kept-init
-loop-kept-init c = record { few = omega arith; pushed = refl }
-
-pub turn_on-requires : goal.turn_on-requires
-turn_on-requires c =
-    let few = c.loop-kept.invariant.few in (
-      c.loop-kept-test.true,
-      omega (arith, c.requires.0),
-      record { small = λ i h. c.requires.1.small i (omega arith) },
-      c.requires.2,
-    )
-
-pub returns-then-turn_on-gt0 : goal.returns-then-turn_on-gt0
-returns-then-turn_on-gt0 c =
-    settle-keep c.loop-kept.invariant c.loop-kept-test.true
-    (sym (ap (λ (t : ℤ). lt_z (pos 0) t) (result-is w64 c.turn_on.type_inv c.turn_on.ensures)) ∙ c.if-turn_on-gt0.true)
-
-pub overflow_sub-kept : goal.overflow_sub-kept
-overflow_sub-kept c = omega arith
-
-pub loop-kept-smaller : goal.loop-kept-smaller
-loop-kept-smaller c = omega arith
+-- the test the other way round
+other : (z : ℤ) → le_z z (pos 0) ≡ true → lt_z (pos 0) z ≡ false
+other z h = le-lt_z {x = pos 0} {y = z} (le_z-true {x = z} {y = pos 0} h)
 
 pub loop-kept-preserved : goal.loop-kept-preserved
 loop-kept-preserved c =
     settle-drop c.loop-kept.invariant c.loop-kept-test.true
-    (sym (ap (λ (t : ℤ). lt_z (pos 0) t) (result-is w64 c.turn_on.type_inv c.turn_on.ensures)) ∙ c.if-turn_on-gt0.false)
+    (sym (ap (lt_z (pos 0)) (result-is w64 c.turn_on.type_inv c.turn_on.ensures))
+    ∙ other (to_z w64 (of_z w64 c.turn_on.result)) c.if-turn_on-le0.true)
 
-pub returns : goal.returns
-returns c = settle-short c.loop-kept.invariant c.loop-kept-test.false
+strict : (z : ℤ) → le_z z (pos 0) ≡ false → lt_z (pos 0) z ≡ true
+strict z h = lt-lt_z {x = pos 0} {y = z} (le_z-false {x = z} {y = pos 0} h)
+
+pub returns-else-turn_on-le0 : goal.returns-else-turn_on-le0
+returns-else-turn_on-le0 c =
+    settle-keep c.loop-kept.invariant c.loop-kept-test.true
+    (sym (ap (lt_z (pos 0)) (result-is w64 c.turn_on.type_inv c.turn_on.ensures))
+    ∙ strict (to_z w64 (of_z w64 c.turn_on.result)) c.if-turn_on-le0.false)
+
+pub returns-after-loop-kept : goal.returns-after-loop-kept
+returns-after-loop-kept c = settle-short c.loop-kept.invariant c.loop-kept-test.false

@@ -16,7 +16,7 @@ use Rattle.endian.specs.theory.Coded.{front-is, front_length}
 use Rattle.journal.specs.Format.{judged, is_answer}
 use Rattle.journal.proofs.theory.Judging.{many-refused, passed-answers}
 use Rattle.journal.proofs.corners.is_shape_at.Goals as goal
-use Rattle.journal.proofs.corners.is_shape_at.Goals.{After-buffer-1, Else-exceeds_corners}
+use Rattle.journal.proofs.corners.is_shape_at.Goals.{After-decode, Else-exceeds_corners}
 
 -- the numbers fit the buffer
 fits : (c : Else-exceeds_corners) → c.args.n ≤ length c.args.buffer.now
@@ -37,19 +37,27 @@ pub decode-requires : goal.decode-requires
 decode-requires c = (c.requires.0, fits (goal.at.decode-requires c).Else-exceeds_corners)
 
 -- the buffer is as long as it was
-kept : (c : After-buffer-1) →
+kept : (c : After-decode) →
     length c.decode.new.out ≡ length c.args.buffer.now
 kept c =
     let args = c.args in
     front_length (words_at args.n args.log.now args.p) args.buffer.now _ c.decode.ensures
-    (omega (arith, words_at-length args.log.now args.n args.p, fits (goal.at.After-buffer-1 c).Else-exceeds_corners))
+    (omega (arith, words_at-length args.log.now args.n args.p, fits (goal.at.After-decode c).Else-exceeds_corners))
 
 pub slice_bounds-passes-end : goal.slice_bounds-passes-end
-slice_bounds-passes-end c = omega (arith, kept c, fits (goal.at.slice_bounds-passes-end c).Else-exceeds_corners)
+slice_bounds-passes-end c = omega (
+  arith,
+  kept (goal.at.slice_bounds-passes-end c).After-decode,
+  fits (goal.at.slice_bounds-passes-end c).Else-exceeds_corners,
+)
 
 pub slice_bounds-passes-end-2 : goal.slice_bounds-passes-end-2
 slice_bounds-passes-end-2 c =
-    sym (length-take-le _ c.decode.new.out (omega (arith, kept c, fits (goal.at.slice_bounds-passes-end-2 c).Else-exceeds_corners)))
+    sym (length-take-le _ c.decode.new.out (omega (
+      arith,
+      kept (goal.at.slice_bounds-passes-end-2 c).After-decode,
+      fits (goal.at.slice_bounds-passes-end-2 c).Else-exceeds_corners,
+    )))
 
 pub returns : goal.returns
 returns c =
@@ -58,5 +66,5 @@ returns c =
     let count = words_at-length args.log.now args.n args.p in (
       passed-answers _ _ c.passes.ensures
           ∙ ap (λ m. is_answer (judged m)) (front-is l args.buffer.now _ c.decode.ensures args.n count),
-      kept (goal.at.returns c).After-buffer-1,
+      kept (goal.at.returns c).After-decode,
     )

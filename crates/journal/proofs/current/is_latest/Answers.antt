@@ -1,9 +1,9 @@
 -- `is_latest` meets its contract: the table says it of the record, or it is looked up.
-use mathlib.Core.Path.{◌≡◌, sym, ◌∙◌, ap}
+use mathlib.Core.Path.{◌≡◌, sym, ◌∙◌, ap, subst}
 use mathlib.Core.Bool.{not}
-use Prim.Native.Nat.{ℕ, ◌%◌, ◌<◌}
+use Prim.Native.Nat.{ℕ}
 use native.Mathlib.Omega.{arith}
-use lib.ListN.{length, get_or, drop}
+use lib.ListN.{drop}
 use Rattle.journal.specs.Format.{records, name}
 use Rattle.journal.specs.Reading.{held}
 use Rattle.journal.specs.Survey.{record_at, next_at}
@@ -11,24 +11,22 @@ use Rattle.journal.proofs.theory.Survey.{name-at}
 use Rattle.journal.proofs.theory.Stepping.{name-here, name-inside}
 use Rattle.journal.proofs.theory.Marks.{Later, marked-none, marked-held}
 use Rattle.journal.proofs.current.is_latest.Goals as goal
-use Rattle.journal.proofs.current.is_latest.Goals.{After-pair_at-name, Else-last-p, Else-table-name}
+use Rattle.journal.proofs.current.is_latest.Goals.{After-pair_at-name, Else-last-p}
 
 name-read : (c : After-pair_at-name) → let args = c.args in
     name (record_at args.log.now args.p) ≡ c.pair_at-name.result
 name-read c = name-here c.requires.0 ∙ name-at _ _ ∙ sym c.pair_at-name.ensures.0
 
--- the table has a place for the name
-marked : (c : Else-table-name) → c.pair_at-name.result % 1024 < length c.args.table.now
-marked c = omega (arith, c.if-table-name.false)
-
 -- a record is at that place, and it comes later
 later : (c : Else-last-p) →
     let args = c.args in
-    Later args.log.now (next_at args.log.now args.p) (get_or args.table.now (c.pair_at-name.result % 1024) 0)
+    Later args.log.now (next_at args.log.now args.p) c.in-Some.last
 later c =
-    let pre = c.requires in
-    marked-held pre.1 pre.0 (name-read (goal.at.Else-last-p c).After-pair_at-name) (marked (goal.at.Else-last-p c).Else-table-name)
-    (omega (arith, c.if-last-p.false))
+    let args = c.args in
+    let place = c.in-Some.ensures in
+    subst (Later args.log.now (next_at args.log.now args.p)) place.1
+    (marked-held c.requires.1 c.requires.0 (name-read (goal.at.Else-last-p c).After-pair_at-name) place.0
+    (omega (arith, c.if-last-p.false, place.1)))
 
 pub overflow_add-p : goal.overflow_add-p
 overflow_add-p c = omega (arith, name-inside c.requires.0)
@@ -36,15 +34,13 @@ overflow_add-p c = omega (arith, name-inside c.requires.0)
 pub pair_at-name-requires : goal.pair_at-name-requires
 pair_at-name-requires c = omega (arith, name-inside c.requires.0)
 
-pub overflow_cast-last : goal.overflow_cast-last
-overflow_cast-last c = omega (arith, c.shared_slice_known-3-1.given (c.pair_at-name.result % 1024))
-
 pub returns-then-last-p : goal.returns-then-last-p
 returns-then-last-p c =
     let log = c.args.log.now in
     let read = name-read (goal.at.returns-then-last-p c).After-pair_at-name in
     sym (ap (λ (n : ℕ). not (held n (records (drop (next_at log c.args.p) log)))) read
-    ∙ ap not (marked-none c.requires.1 c.requires.0 read (marked (goal.at.returns-then-last-p c).Else-table-name) c.if-last-p.true))
+    ∙ ap not (marked-none c.requires.1 c.requires.0 read c.in-Some.ensures.0
+    (omega (arith, c.if-last-p.true, c.in-Some.ensures.1))))
 
 pub overflow_add-last : goal.overflow_add-last
 overflow_add-last c = omega (arith, name-inside (later c).sound)

@@ -1,10 +1,6 @@
-use Prim.Native.Nat.{◌-◌}
-use lib.ListN.{length}
 use Rattle.journal.proofs.theory.Latest.{SoFar}
+use Rattle.journal.proofs.theory.Walk.{On}
 use Rattle.journal.proofs.latest.latest.Given as goal
 
-abbrev pub invariant-loop-found : goal.invariant-loop-found
-invariant-loop-found l = SoFar l.name l.log l.p l.found
-
-abbrev pub decreases-loop-found : goal.decreases-loop-found
-decreases-loop-found l = length l.log - l.p
+abbrev pub invariant-loop-p : goal.invariant-loop-p
+invariant-loop-p l = On l.log (λ p. SoFar l.name l.log p l.found) l.p-iterator

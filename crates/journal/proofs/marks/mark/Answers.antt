@@ -1,58 +1,31 @@
--- `mark` meets its contract. The invariant: the table is filled as far as p; the measure is what is left of the log.
-use mathlib.Core.Path.{sym, ◌∙◌, subst}
-use Prim.Native.Nat.{◌%◌}
-use native.Mathlib.Omega.{arith}
-use lib.ListN.{set}
+-- `mark` meets its contract. The invariant: the table is filled as far as p.
+use Rattle.std.proofs.Common.{sym, ◌∙◌, arith}
 use Rattle.journal.specs.Survey.{Sound}
-use Rattle.journal.proofs.theory.Survey.{name-at, next-inside}
+use Rattle.journal.proofs.theory.Survey.{name-at}
 use Rattle.journal.proofs.theory.Stepping.{name-here, name-inside, reached-sound}
-use Rattle.journal.proofs.theory.Marks.{Marking, marking-start, marking-next, marking-end}
+use Rattle.journal.proofs.theory.Marks.{marking-start, marking-next, marking-end}
+use Rattle.journal.proofs.theory.Walk.{on-start, on-here, on-next, on-end}
 use Rattle.journal.proofs.marks.mark.Goals as goal
-use Rattle.journal.proofs.marks.mark.Goals.{In-loop-table}
+use Rattle.journal.proofs.marks.mark.Goals.{In-Some}
 
 -- a whole record is here
-here : (c : In-loop-table) →
-    Sound c.args.log.now c.loop-table.p
-here c = reached-sound c.loop-table.invariant.reached (sym c.whole_at.ensures ∙ c.loop-table-test.true)
+here : (c : In-Some) →
+    Sound c.args.log.now c.in-Some.p
+here c = let it = on-here c.loop-p.invariant c.in-Some.ensures.steps in reached-sound it.1.reached it.0
 
-pub loop-table-init : goal.loop-table-init
-loop-table-init c = marking-start _ _ c.requires.0 c.requires.2
-
-pub whole_at-requires : goal.whole_at-requires
-whole_at-requires c = c.loop-table.invariant.reached.inside
-
-pub overflow_cast-table : goal.overflow_cast-table
-overflow_cast-table c = omega (arith, name-inside (here c), c.requires.1)
-
-pub overflow_add-p : goal.overflow_add-p
-overflow_add-p c = omega (arith, name-inside (here c))
+pub loop-p-init : goal.loop-p-init
+loop-p-init c =
+    on-start c.into_iter-p-iterator.ensures.into_iter_gives c.all-p-items.ensures (marking-start _ _ c.requires.0 c.requires.2)
 
 pub pair_at-requires : goal.pair_at-requires
 pair_at-requires c = omega (arith, name-inside (here c))
 
-pub offset_bounds-table-pair_at : goal.offset_bounds-table-pair_at
-offset_bounds-table-pair_at c = omega arith
-
-pub bounds-table-pair_at : goal.bounds-table-pair_at
-bounds-table-pair_at c = omega (arith, c.loop-table.invariant.count)
-
-pub next_at-p-requires : goal.next_at-p-requires
-next_at-p-requires c = (here (goal.at.next_at-p-requires c).In-loop-table).here
-
-pub loop-table-smaller : goal.loop-table-smaller
-loop-table-smaller c =
-    omega (arith, c.next_at-p.ensures, next-inside _ c.loop-table.p (here (goal.at.loop-table-smaller c).In-loop-table).here)
-
-pub loop-table-preserved : goal.loop-table-preserved
-loop-table-preserved c =
-    let args = c.args in
-    subst (Marking args.log.now args.table.now (set c.loop-table.table (c.pair_at.result % 1024) c.loop-table.p))
-    (sym c.next_at-p.ensures)
-    (marking-next c.loop-table.invariant (here (goal.at.loop-table-preserved c).In-loop-table).here
-    (name-here (here (goal.at.loop-table-preserved c).In-loop-table) ∙ name-at _ _ ∙ sym c.pair_at.ensures.0))
-
-pub shape_of-table : goal.shape_of-table
-shape_of-table c = c.loop-table.invariant.count ∙ sym c.requires.2
+pub loop-p-preserved : goal.loop-p-preserved
+loop-p-preserved c =
+    let steps = c.in-Some.ensures.steps in
+    let inv = c.loop-p.invariant in
+    let it = here (goal.at.loop-p-preserved c).In-Some in
+    on-next inv _ steps (marking-next (on-here inv steps).1 it.here (name-here it ∙ name-at _ _ ∙ sym c.pair_at.ensures.0))
 
 pub returns : goal.returns
-returns c = marking-end c.loop-table.invariant (sym c.whole_at.ensures ∙ c.loop-table-test.false)
+returns c = let it = on-end c.loop-p.invariant c.in-None.ensures.steps in marking-end it.1 it.0

@@ -1,54 +1,38 @@
--- `pass` meets its contract. The invariant: the records up to p are good; the measure is what is left.
-use mathlib.Core.Path.{◌≡◌, refl, sym, ◌∙◌, subst}
-use mathlib.Core.Bool.{true}
-use native.Mathlib.Omega.{arith}
-use lib.ListN.{drop}
-use Rattle.journal.specs.Format.{whole}
-use Rattle.journal.proofs.theory.Survey.{Along, next-inside, along-start, along-good, along-bad, along-end}
+-- `pass` meets its contract. The invariant: the records up to the place are good.
+use Rattle.std.specs.Prelude.{◌≡◌, Ok}
+use Rattle.std.proofs.Common.{refl, sym, ◌∙◌, ap, arith}
+use Rattle.journal.proofs.theory.Survey.{Along, along-start, along-good, along-bad, along-end}
+use Rattle.journal.proofs.theory.Walk.{on-start, on-here, on-next, on-end}
 use Rattle.journal.proofs.survey.pass.Goals as goal
-use Rattle.journal.proofs.survey.pass.Goals.{In-loop-buffer}
 
--- a whole record is here
-here : (c : In-loop-buffer)
-    → whole (drop c.loop-buffer.p c.args.log.now) ≡ true
-here c = sym c.whole_at.ensures ∙ c.loop-buffer-test.true
-
-pub loop-buffer-init : goal.loop-buffer-init
-loop-buffer-init c = (along-start _, refl)
-
-pub whole_at-requires : goal.whole_at-requires
-whole_at-requires c = c.loop-buffer.invariant.0.inside
+pub loop-place-init : goal.loop-place-init
+loop-place-init c = (
+  on-start c.into_iter-place-iterator.ensures.into_iter_gives c.all-place-items.ensures (along-start _, refl),
+  refl,
+)
 
 pub bad_at-requires : goal.bad_at-requires
 bad_at-requires c =
-    (here (goal.at.bad_at-requires c).In-loop-buffer, λ n l m. omega (arith, c.requires n l m, c.loop-buffer.invariant.1))
-
-pub shape_of-buffer-then-bad_at : goal.shape_of-buffer-then-bad_at
-shape_of-buffer-then-bad_at c =
-    c.bad_at.ensures.1 ∙ c.loop-buffer.invariant.1
+    ((on-here c.loop-place.invariant.0 c.in-Some.ensures.steps).0, λ n l m. omega (arith, c.requires n l m, c.loop-place.invariant.1))
 
 pub returns-then-bad_at : goal.returns-then-bad_at
 returns-then-bad_at c =
-    along-bad c.loop-buffer.invariant.0 (here (goal.at.returns-then-bad_at c).In-loop-buffer) (sym c.bad_at.ensures.0 ∙ c.if-bad_at.true)
+    let it = on-here c.loop-place.invariant.0 c.in-Some.ensures.steps in
+    along-bad it.1.0 it.0 (sym c.bad_at.ensures.0 ∙ c.if-bad_at.true)
 
-pub next_at-p-requires : goal.next_at-p-requires
-next_at-p-requires c = here (goal.at.next_at-p-requires c).In-loop-buffer
+pub next_at-end-requires : goal.next_at-end-requires
+next_at-end-requires c = (on-here c.loop-place.invariant.0 c.in-Some.ensures.steps).0
 
-pub loop-buffer-smaller : goal.loop-buffer-smaller
-loop-buffer-smaller c =
-    omega (arith, c.next_at-p.ensures, next-inside _ c.loop-buffer.p (here (goal.at.loop-buffer-smaller c).In-loop-buffer))
-
-pub loop-buffer-preserved : goal.loop-buffer-preserved
-loop-buffer-preserved c = (
-  subst (Along c.args.log.now) (sym c.next_at-p.ensures)
-      (along-good c.loop-buffer.invariant.0 (here (goal.at.loop-buffer-preserved c).In-loop-buffer)
-      (sym c.bad_at.ensures.0 ∙ c.if-bad_at.false)),
-  c.bad_at.ensures.1 ∙ c.loop-buffer.invariant.1,
-)
-
-pub shape_of-buffer : goal.shape_of-buffer
-shape_of-buffer c = c.loop-buffer.invariant.1
+pub loop-place-preserved : goal.loop-place-preserved
+loop-place-preserved c =
+    let steps = c.in-Some.ensures.steps in
+    let it = on-here c.loop-place.invariant.0 steps in (
+      on-next c.loop-place.invariant.0 (λ p. Along c.args.log.now p × (c.next_at-end.result ≡ p)) steps
+          (along-good it.1.0 it.0 (sym c.bad_at.ensures.0 ∙ c.if-bad_at.false), c.next_at-end.ensures),
+      c.bad_at.ensures.1 ∙ c.loop-place.invariant.1,
+    )
 
 pub returns : goal.returns
 returns c =
-    along-end c.loop-buffer.invariant.0 (sym c.whole_at.ensures ∙ c.loop-buffer-test.false)
+    let it = on-end c.loop-place.invariant.0 c.in-None.ensures.steps in
+    ap Ok it.1.1 ∙ along-end it.1.0 it.0

@@ -1,11 +1,8 @@
-use mathlib.Core.Path.{◌≡◌}
-use Prim.Native.Nat.{◌-◌}
-use lib.ListN.{length}
+use Rattle.std.specs.Prelude.{◌≡◌, length}
 use Rattle.journal.proofs.theory.Survey.{Along}
+use Rattle.journal.proofs.theory.Walk.{On}
 use Rattle.journal.proofs.survey.pass.Given as goal
 
-abbrev pub invariant-loop-buffer : goal.invariant-loop-buffer
-invariant-loop-buffer l = Along l.log l.p × (length l.buffer ≡ length l.initial.buffer)
-
-abbrev pub decreases-loop-buffer : goal.decreases-loop-buffer
-decreases-loop-buffer l = length l.log - l.p
+abbrev pub invariant-loop-place : goal.invariant-loop-place
+invariant-loop-place l =
+    On l.log (λ p. Along l.log p × (l.end ≡ p)) l.place-iterator × (length l.buffer ≡ length l.initial.buffer)

@@ -1,10 +1,6 @@
-use Prim.Native.Nat.{◌-◌, ◌≤◌}
-use lib.ListN.{take, drop}
+use Rattle.std.specs.Prelude.{take, drop}
 use Rattle.packing.specs.Copying.{Copied}
 use Rattle.packing.proofs.copying.copy.Given as goal
 
 abbrev pub invariant-loop-i : goal.invariant-loop-i
-invariant-loop-i l = (l.i ≤ l.n) × Copied l.allowed l.need l.initial.new l.q (take l.i (drop l.p l.old)) l.count l.new
-
-abbrev pub decreases-loop-i : goal.decreases-loop-i
-decreases-loop-i l = l.n - l.i
+invariant-loop-i l = Copied l.allowed l.need l.initial.new l.q (take l.i (drop l.p l.old)) l.count l.new

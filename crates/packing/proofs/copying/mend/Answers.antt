@@ -3,7 +3,7 @@ use mathlib.Core.Path.{sym, subst}
 use mathlib.Core.List.{List, [], ◌∷◌}
 use Prim.Native.Nat.{ℕ, ◌+◌}
 use Rattle.packing.specs.Copying.{Copied}
-use Rattle.packing.specs.theory.Copying.{copied-same, copied-made, copied-past, copied-length}
+use Rattle.packing.specs.theory.Copying.{copied-same, copied-made, copied-past}
 use Rattle.packing.proofs.copying.mend.Goals as goal
 use Rattle.packing.proofs.copying.mend.Goals.{Joined-need-allowed, then-need-allowed, else-need-allowed}
 
@@ -26,9 +26,6 @@ both c =
           subst (λ (d : List ℕ). Copied args.allowed args.need b args.at (args.x ∷ []) (args.need + 1) d) (sym w.new-is)
           (copied-past args.allowed args.need b args.at args.x c.requires.0 c.if-new-at.false w.if-need-allowed.false)
     ]
-
-pub shape_of-new : goal.shape_of-new
-shape_of-new c = copied-length (both c)
 
 pub returns : goal.returns
 returns c = both c

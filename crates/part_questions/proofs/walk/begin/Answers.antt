@@ -4,8 +4,9 @@ use Rattle.plane.specs.Floor.{Floored, on, Same}
 use Rattle.plane.specs.Question.{Question}
 use Rattle.parts.specs.Part.{ask_begin}
 use Rattle.admission.specs.theory.Door.{shapes-refused, rest-refused, all-answered}
+use Rattle.admission.specs.theory.Judged.{held, refusal-of, handed-on}
 use Rattle.part_questions.proofs.walk.begin.Goals as goal
-use Rattle.part_questions.proofs.walk.begin.Goals.{In_default, Start}
+use Rattle.part_questions.proofs.walk.begin.Goals.{In_ok-admit_pair, Start}
 
 -- the two shapes
 abbrev one : Start → Floored
@@ -18,23 +19,22 @@ abbrev asked : Start → Question
 asked c = ask_begin (one c) (other c)
 
 -- past the judging they are shapes on one floor
-shapes : (c : In_default) → Same (one (goal.at.In_default c).Start) (other (goal.at.In_default c).Start)
-shapes c = c.admit_pair.ensures.valid c.in_default.is
+shapes : (c : In_ok-admit_pair) → Same (one (goal.at.In_ok-admit_pair c).Start) (other (goal.at.In_ok-admit_pair c).Start)
+shapes c = held c.in_ok-admit_pair.ensures
 
-pub returns-in-No : goal.returns-in-No
-returns-in-No c =
-    (shapes-refused (asked (goal.at.returns-in-No c).Start)
-    (c.admit_pair.ensures.no _ c.in-No.is)).0
+pub returns-in_err-admit_pair : goal.returns-in_err-admit_pair
+returns-in_err-admit_pair c =
+    rw (handed-on _ _ c.from_residual.ensures.1)
+    (shapes-refused (asked (goal.at.returns-in_err-admit_pair c).Start) (refusal-of c.in_err-admit_pair.ensures)).0
 
 pub survey-requires : goal.survey-requires
 survey-requires c = let both = shapes c in (both.first-valid, both.second-valid)
 
-pub returns-in-No-survey : goal.returns-in-No-survey
-returns-in-No-survey c =
-    (rest-refused (asked (goal.at.returns-in-No-survey c).Start) (shapes (goal.at.returns-in-No-survey c).In_default)
-    (c.survey.ensures.no _ c.in-No-survey.is)).0
+pub returns-in_err-survey : goal.returns-in_err-survey
+returns-in_err-survey c =
+    rw (handed-on _ _ c.from_residual-in_err-survey.ensures.1)
+    (rest-refused (asked (goal.at.returns-in_err-survey c).Start) (held c.in_ok-admit_pair.ensures) (refusal-of c.in_err-survey.ensures)).0
 
 pub returns : goal.returns
 returns c =
-    all-answered (asked (goal.at.returns c).Start) (shapes (goal.at.returns c).In_default)
-    (c.survey.ensures.valid c.in_default-survey.is) refl
+    all-answered (asked (goal.at.returns c).Start) (held c.in_ok-admit_pair.ensures) (held c.in_ok-survey.ensures) refl

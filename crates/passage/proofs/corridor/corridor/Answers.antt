@@ -2,6 +2,7 @@
 use mathlib.Core.Path.{◌≡◌, sym, ◌∙◌, ap}
 use mathlib.Core.List.{List, [], ◌∷◌}
 use mathlib.Core.Bool.{Bool, true, cond}
+use mathlib.Core.Logic.{inl, inr}
 use native.Mathlib.Omega.{arith}
 use lib.IntN.{pos}
 use Rattle.plane.specs.Point.{Point, points}
@@ -27,9 +28,7 @@ pub returns-in-Apart : goal.returns-in-Apart
 returns-in-Apart c = c.widest.ensures ∙ apart-numbers _ _ (ready (goal.at.returns-in-Apart c).In-Apart)
 
 pub returns-in-Touching : goal.returns-in-Touching
-returns-in-Touching c = apart-numbers _ _ (related-not-apart _ _ (omega arith)
-    (ap number_of (sym c.in-Touching.is) ∙ c.relation.ensures))
-
-pub returns-in-Overlapping : goal.returns-in-Overlapping
-returns-in-Overlapping c = apart-numbers _ _ (related-not-apart _ _ (omega arith)
-    (ap number_of (sym c.in-Overlapping.is) ∙ c.relation.ensures))
+returns-in-Touching c = elim c.in-Touching.is [
+  | inl e ↦ apart-numbers _ _ (related-not-apart _ _ {n = 1} (omega arith) (ap number_of (sym e) ∙ c.relation.ensures))
+  | inr e ↦ apart-numbers _ _ (related-not-apart _ _ {n = 2} (omega arith) (ap number_of (sym e) ∙ c.relation.ensures))
+]

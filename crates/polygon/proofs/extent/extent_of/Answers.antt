@@ -1,5 +1,4 @@
--- `extent_of` meets its contract. The invariant: the two points are as high as the first i corners, and as their opposites; the measure is
--- what is left.
+-- `extent_of` meets its contract. The invariant: the two points are as high as the first i corners, and as their opposites.
 use mathlib.Core.Path.{◌≡◌, ◌∙◌, ap, subst, sym}
 use Prim.Native.Nat.{◌≤◌, ◌<◌, ◌^◌}
 use native.Mathlib.Omega.{arith}
@@ -28,12 +27,6 @@ in_list c = omega (arith, c.loop-i-test.true, c.count-n.ensures)
 next_small : (c : After-corner_at-p) → Small (2 ^ 21) (at c.corner_at-p.result)
 next_small c = small-corner _ c.requires.1 _ (in_list c.before) c.corner_at-p.ensures
 
-pub count-n-requires : goal.count-n-requires
-count-n-requires c = tt
-
-pub corner_at-first-requires : goal.corner_at-first-requires
-corner_at-first-requires c = c.requires.0
-
 pub opposite-low-requires : goal.opposite-low-requires
 opposite-low-requires c = first_small c
 
@@ -46,9 +39,6 @@ loop-i-init c =
           (turned small c.opposite-low.ensures),
     )
 
-pub corner_at-p-requires : goal.corner_at-p-requires
-corner_at-p-requires c = in_list c
-
 pub upper-high-requires : goal.upper-high-requires
 upper-high-requires c = (c.loop-i.invariant.0.small, next_small c)
 
@@ -58,12 +48,6 @@ opposite-requires c = next_small c.before
 pub upper-low-requires : goal.upper-low-requires
 upper-low-requires c =
     (c.loop-i.invariant.1.small, turned (next_small c.before.before) c.opposite.ensures)
-
-pub overflow_add-i : goal.overflow_add-i
-overflow_add-i c = omega (arith, c.loop-i-test.true)
-
-pub loop-i-smaller : goal.loop-i-smaller
-loop-i-smaller c = omega (arith, c.loop-i-test.true)
 
 pub loop-i-preserved : goal.loop-i-preserved
 loop-i-preserved c =

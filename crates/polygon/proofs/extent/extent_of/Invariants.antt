@@ -1,4 +1,3 @@
-use Prim.Native.Nat.{◌-◌}
 use Rattle.plane.specs.Point.{points}
 use Rattle.plane.specs.Corner.{mirrored}
 use Rattle.polygon.specs.Point.{at}
@@ -7,6 +6,3 @@ use Rattle.polygon.proofs.extent.extent_of.Given as goal
 
 abbrev pub invariant-loop-i : goal.invariant-loop-i
 invariant-loop-i l = Reached (points l.list) l.i (at l.high) × Reached (mirrored (points l.list)) l.i (at l.low)
-
-abbrev pub decreases-loop-i : goal.decreases-loop-i
-decreases-loop-i l = l.n - l.i

@@ -10,9 +10,6 @@ use Rattle.plane.specs.Limits.{max_coordinate}
 use Rattle.plane.specs.Refusal.{outside}
 use Rattle.polygon.proofs.limits.outside.Goals as goal
 
-pub beyond-requires : goal.beyond-requires
-beyond-requires c = tt
-
 pub returns : goal.returns
 unfolding outside max_coordinate
 returns c =

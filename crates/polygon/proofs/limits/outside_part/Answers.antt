@@ -9,9 +9,6 @@ use Rattle.integer.specs.Bound.{beyond-size}
 use Rattle.plane.specs.Limits.{max_part}
 use Rattle.polygon.proofs.limits.outside_part.Goals as goal
 
-pub beyond-requires : goal.beyond-requires
-beyond-requires c = tt
-
 pub returns : goal.returns
 unfolding max_part
 returns c =

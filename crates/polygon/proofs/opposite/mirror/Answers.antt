@@ -7,12 +7,6 @@ use Rattle.plane.proofs.theory.mirror.Mirror.{mirror-known}
 use Rattle.polygon.specs.theory.Peak.{peak-last}
 use Rattle.polygon.proofs.opposite.mirror.Goals as goal
 
-pub top-requires : goal.top-requires
-top-requires c = c.requires.0.shape.some
-
-pub write_from-requires : goal.write_from-requires
-write_from-requires c = (c.top.ensures.within, c.requires.0.in_range, c.requires.1)
-
 pub returns : goal.returns
 returns c =
     c.write_from.ensures

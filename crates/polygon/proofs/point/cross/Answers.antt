@@ -1,29 +1,37 @@
 -- `cross` meets its contract: products of small parts, and their difference, fit 64 bits.
-use Rattle.integer.specs.Machine.{machine, bounded, machine-fits, machine-is}
+use mathlib.Core.Path.{◌≡◌, ◌∙◌}
+use Prim.Native.Nat.{◌^◌}
+use mir.Syntax.{w32}
+use mir.Val.{to_z, of_z}
+use mir.Facts.{to_z-of_z}
+use lib.IntN.{ℤ}
+use Rattle.integer.specs.Bound.{Within}
+use Rattle.integer.specs.Machine.{Machine, known, machine, within-fits, machine-fits, machine-is}
 use Rattle.plane.specs.Turn.{cross as turn_cross}
 use Rattle.polygon.proofs.point.cross.Goals as goal
+use Rattle.polygon.proofs.point.cross.Goals.{After-from-4}
 
-pub overflow_cast-result : goal.overflow_cast-result
-overflow_cast-result c = machine-fits (search (machine, bounded) depth 40) tt
-
-pub overflow_cast-result-2 : goal.overflow_cast-result-2
-overflow_cast-result-2 c = machine-fits (search (machine, bounded) depth 40) tt
-
-pub overflow_mul-result : goal.overflow_mul-result
-overflow_mul-result c = machine-fits (search (machine, bounded) depth 40) tt
-
-pub overflow_cast-result-3 : goal.overflow_cast-result-3
-overflow_cast-result-3 c = machine-fits (search (machine, bounded) depth 40) tt
-
-pub overflow_cast-result-4 : goal.overflow_cast-result-4
-overflow_cast-result-4 c = machine-fits (search (machine, bounded) depth 40) tt
-
-pub overflow_mul-result-2 : goal.overflow_mul-result-2
-overflow_mul-result-2 c = machine-fits (search (machine, bounded) depth 40) tt
+-- a part, widened to 64 bits
+abbrev widened : {x v : ℤ} → x ≡ to_z w32 (of_z w32 v) → Within (2 ^ 22) v → Machine x
+widened e h = known (e ∙ to_z-of_z {w = w32} (within-fits tt h)) h
 
 pub overflow_sub-result : goal.overflow_sub-result
-overflow_sub-result c = machine-fits (search (machine, bounded) depth 40) tt
+overflow_sub-result c =
+    let e = c.requires.0 in
+    let f = c.requires.1 in
+    let ex = widened c.from.ensures e.small-x in
+    let fy = widened c.from-2.ensures f.small-y in
+    let ey = widened c.from-3.ensures e.small-y in
+    let fx = widened c.from-4.ensures f.small-x in
+    machine-fits (search machine depth 40) tt
 
 pub returns : goal.returns
 unfolding turn_cross
-returns c = machine-is (search (machine, bounded) depth 40) tt
+returns c =
+    let e = c.requires.0 in
+    let f = c.requires.1 in
+    let ex = widened c.from.ensures e.small-x in
+    let fy = widened c.from-2.ensures f.small-y in
+    let ey = widened c.from-3.ensures e.small-y in
+    let fx = widened c.from-4.ensures f.small-x in
+    machine-is (search machine depth 40) tt

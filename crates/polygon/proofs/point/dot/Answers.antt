@@ -4,7 +4,7 @@ use lib.IntN.{pos, ◌-ℤ◌, +ℤ_idl}
 use mir.Syntax.{w32, w64}
 use mir.Val.{to_z, of_z}
 use Rattle.integer.specs.Bound.{within-neg}
-use Rattle.integer.specs.Machine.{machine, bounded, machine-fits, machine-is, result-is}
+use Rattle.integer.specs.Machine.{machine, bounded, machine-is, result-is}
 use Rattle.plane.specs.Cut.{quarter}
 use Rattle.plane.specs.Point.{point}
 use Rattle.plane.specs.Turn.{cross}
@@ -12,9 +12,6 @@ use Rattle.plane.proofs.theory.forms.Vector.{value-cross}
 use Rattle.polygon.specs.Point.{at, Small}
 use Rattle.polygon.proofs.point.dot.Goals as goal
 use Rattle.polygon.proofs.point.dot.Goals.{After-struct_told-2-1}
-
-pub overflow_sub-d : goal.overflow_sub-d
-overflow_sub-d c = machine-fits (search (machine, bounded) depth 40) tt
 
 -- the left of d, as it is passed on
 left_is : (c : After-struct_told-2-1) → let d = c.args.d in

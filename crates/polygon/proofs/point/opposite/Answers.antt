@@ -1,15 +1,9 @@
 -- `opposite` meets its contract: the opposite of a small part fits 32 bits.
 use mathlib.Core.Path.{◌∙◌, ap₂}
 use lib.IntN.{+ℤ_idl}
-use Rattle.integer.specs.Machine.{machine, bounded, machine-fits, machine-is}
+use Rattle.integer.specs.Machine.{machine, bounded, machine-is}
 use Rattle.plane.specs.Point.{point}
 use Rattle.polygon.proofs.point.opposite.Goals as goal
-
-pub overflow_sub-result : goal.overflow_sub-result
-overflow_sub-result c = machine-fits (search (machine, bounded) depth 40) tt
-
-pub overflow_sub-result-2 : goal.overflow_sub-result-2
-overflow_sub-result-2 c = machine-fits (search (machine, bounded) depth 40) tt
 
 pub returns : goal.returns
 returns c =

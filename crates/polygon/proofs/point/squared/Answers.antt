@@ -5,14 +5,7 @@ use Rattle.integer.specs.Machine.{result-is}
 use Rattle.plane.specs.Point.{Point}
 use Rattle.plane.specs.Direction.{value}
 use Rattle.plane.specs.Measure.{squared as measure_squared}
-use Rattle.polygon.specs.theory.Small.{small-step}
 use Rattle.polygon.proofs.point.squared.Goals as goal
-
-pub step-d-requires : goal.step-d-requires
-step-d-requires c = (c.requires.1, c.requires.0)
-
-pub dot-requires : goal.dot-requires
-dot-requires c = let small = small-step c.requires.1 c.requires.0 c.step-d.ensures in (small, small)
 
 pub returns : goal.returns
 unfolding value measure_squared

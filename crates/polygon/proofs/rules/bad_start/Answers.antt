@@ -1,22 +1,13 @@
--- `bad_start` meets its contract. The invariant: no corner before c precedes the first; the measure is what is left.
+-- `bad_start` meets its contract. The invariant: no corner before c precedes the first.
 use mathlib.Core.Path.{sym, ◌∙◌}
 use Prim.Native.Nat.{◌<◌}
 use native.Mathlib.Omega.{arith}
 use lib.ListN.{length}
 use Rattle.plane.specs.Point.{points}
 use Rattle.plane.specs.Refusal.{bad_start}
-use Rattle.plane.proofs.theory.lists.Sought.{sought-start, sought-more, sought-yes, sought-no}
+use Rattle.plane.proofs.theory.lists.Sought.{sought-more, sought-yes, sought-no}
 use Rattle.polygon.proofs.rules.bad_start.Goals as goal
 use Rattle.polygon.proofs.rules.bad_start.Goals.{In-loop-c}
-
-pub count-n-requires : goal.count-n-requires
-count-n-requires c = tt
-
-pub loop-c-init : goal.loop-c-init
-loop-c-init c = sought-start _ _
-
-pub precedes_at-requires : goal.precedes_at-requires
-precedes_at-requires c = omega (arith, c.count-n.ensures)
 
 -- the loop's test, said of the corners
 below : (c : In-loop-c) → c.loop-c.c < length (points c.args.list.now)
@@ -26,12 +17,6 @@ pub returns-then-precedes_at : goal.returns-then-precedes_at
 unfolding bad_start
 returns-then-precedes_at c =
     sym (sought-yes _ _ c.loop-c.c (below c.before.before) (sym c.precedes_at.ensures ∙ c.if-precedes_at.true))
-
-pub overflow_add-c : goal.overflow_add-c
-overflow_add-c c = omega arith
-
-pub loop-c-smaller : goal.loop-c-smaller
-loop-c-smaller c = omega arith
 
 pub loop-c-preserved : goal.loop-c-preserved
 loop-c-preserved c =

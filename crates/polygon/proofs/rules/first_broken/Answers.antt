@@ -3,14 +3,8 @@ use mathlib.Core.Path.{sym, ◌∙◌}
 use Rattle.polygon.proofs.LeftRule.{broken-pair, broken-left}
 use Rattle.polygon.proofs.rules.first_broken.Goals as goal
 
-pub equal_pair-requires : goal.equal_pair-requires
-equal_pair-requires c = tt
-
 pub returns-then-equal_pair : goal.returns-then-equal_pair
 returns-then-equal_pair c = broken-pair _ (sym c.equal_pair.ensures ∙ c.if-equal_pair.true)
-
-pub left_break-requires : goal.left_break-requires
-left_break-requires c = c.requires
 
 pub returns : goal.returns
 returns c = c.left_break.ensures ∙ broken-left _ (sym c.equal_pair.ensures ∙ c.if-equal_pair.false)

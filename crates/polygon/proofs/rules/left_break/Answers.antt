@@ -1,24 +1,15 @@
 -- `left_break` meets its contract. The invariants: nothing was found, at no edge before this one, and at this edge at no corner before
--- this one; the measures are what is left.
-use mathlib.Core.Path.{refl, sym, ◌∙◌}
+-- this one.
+use mathlib.Core.Path.{sym, ◌∙◌}
 use Prim.Native.Nat.{◌<◌}
 use native.Mathlib.Omega.{arith}
 use lib.ListN.{length}
 use Rattle.plane.specs.Point.{points}
 use Rattle.plane.specs.Refusal.{left_broken, breaking_edge}
-use Rattle.plane.proofs.theory.lists.Sought.{sought-start, sought-more, sought-found, sought-yes, sought-no}
+use Rattle.plane.proofs.theory.lists.Sought.{sought-more, sought-found, sought-yes, sought-no}
 use Rattle.polygon.proofs.LeftRule.{left-break-at, left-break-nowhere}
 use Rattle.polygon.proofs.rules.left_break.Goals as goal
 use Rattle.polygon.proofs.rules.left_break.Goals.{In-edges, In-loop-corner}
-
-pub count-n-requires : goal.count-n-requires
-count-n-requires c = tt
-
-pub edges-init : goal.edges-init
-edges-init c = (refl, sought-start _ _)
-
-pub loop-corner-init : goal.loop-corner-init
-loop-corner-init c = (c.edges.invariant.0, sought-start _ _)
 
 -- the loops' tests, said of the corners
 edge-below : (c : In-edges)
@@ -29,27 +20,12 @@ corner-below : (c : In-loop-corner)
     → c.loop-corner.corner < length (points c.args.list.now)
 corner-below c = omega (arith, c.count-n.ensures)
 
-pub breaks_at-requires : goal.breaks_at-requires
-breaks_at-requires c = (edge-below c.before.before, corner-below c, c.requires)
-
-pub overflow_step-corner : goal.overflow_step-corner
-overflow_step-corner c = omega arith
-
-pub loop-corner-smaller : goal.loop-corner-smaller
-loop-corner-smaller c = omega arith
-
 pub loop-corner-preserved : goal.loop-corner-preserved
 loop-corner-preserved c = (
   c.loop-corner.invariant.0,
   sought-more _ _ c.loop-corner.corner c.loop-corner.invariant.1 (corner-below c.before.before)
       (sym c.breaks_at.ensures ∙ c.if-breaks_at.false),
 )
-
-pub overflow_step-edge : goal.overflow_step-edge
-overflow_step-edge c = omega arith
-
-pub edges-smaller : goal.edges-smaller
-edges-smaller c = omega arith
 
 pub edges-preserved : goal.edges-preserved
 edges-preserved c = (

@@ -6,12 +6,6 @@ use Rattle.plane.specs.Limits.{max_corners}
 use Rattle.plane.specs.Refusal.{too_many}
 use Rattle.polygon.proofs.rules.too_many.Goals as goal
 
-pub count-requires : goal.count-requires
-count-requires c = tt
-
-pub exceeds_corners-requires : goal.exceeds_corners-requires
-exceeds_corners-requires c = tt
-
 pub returns : goal.returns
 unfolding too_many
 returns c = c.exceeds_corners.ensures ∙ ap (λ (n : ℕ). ltb max_corners n) c.count.ensures

@@ -6,12 +6,6 @@ use Rattle.plane.specs.Limits.{max_points}
 use Rattle.plane.specs.Sweep.{too_many_points}
 use Rattle.polygon.proofs.rules.too_many_points.Goals as goal
 
-pub count-requires : goal.count-requires
-count-requires c = tt
-
-pub exceeds_points-requires : goal.exceeds_points-requires
-exceeds_points-requires c = tt
-
 pub returns : goal.returns
 unfolding too_many_points
 returns c = c.exceeds_points.ensures ∙ ap (λ (n : ℕ). ltb max_points n) c.count.ensures

@@ -1,17 +1,13 @@
 -- `is_nan` meets its contract: the exponent's field is all ones, and the digits' field is not 0.
-use mathlib.Core.Path.{sym, ap}
-use mathlib.Core.Bool.{Bool, not, ◌&&◌}
-use Prim.Native.Nat.{◌%◌}
-use borrow.Author.Tests.{eq-eqb, ne_eqb}
-use lib.Dec.{eqb}
-use lib.Ieee.{nan_bits}
+use Rattle.std.proofs.Common.{arith}
+use Rattle.std.proofs.lemmas.Bool.Decides.{nat_tests}
+use Rattle.std.specs.Float.Ieee.{nan_bits}
 use Rattle.query.proofs.readings.is_nan.Goals as goal
 
 pub returns-then-bits-eq-ONES : goal.returns-then-bits-eq-ONES
 unfolding nan_bits
-returns-then-bits-eq-ONES c = ap (λ (b : Bool). b && not (eqb (c.args.bits % 4503599627370496) 0))
-    (sym (eq-eqb _ 2047 c.if-bits-eq-ONES.true))
+returns-then-bits-eq-ONES c = grind (arith, nat_tests)
 
-pub returns : goal.returns
+pub returns-else-bits-eq-ONES : goal.returns-else-bits-eq-ONES
 unfolding nan_bits
-returns c = ap (λ (b : Bool). b && not (eqb (c.args.bits % 4503599627370496) 0)) (sym (ne_eqb _ 2047 c.if-bits-eq-ONES.false))
+returns-else-bits-eq-ONES c = grind (arith, nat_tests)

@@ -1,7 +1,5 @@
-use mathlib.Core.Path.{◌≡◌}
 use mathlib.Core.List.{◌∷◌}
 use Prim.Native.Nat.{◌-◌, ◌≤◌, ◌<◌}
-use lib.ListN.{length}
 use Rattle.plane.specs.Point.{points, corner}
 use Rattle.plane.specs.Shape.{next}
 use Rattle.ring.specs.Round.{differing}
@@ -9,11 +7,8 @@ use Rattle.ring.specs.Ring.{walked}
 use Rattle.ring.specs.theory.Buffers.{Coming}
 use Rattle.ring.proofs.places.gather.Given as goal
 
-abbrev pub invariant-loop-i : goal.invariant-loop-i
-invariant-loop-i l =
+abbrev pub invariant-loop : goal.invariant-loop
+invariant-loop l =
     Coming (l.start ∷ differing (corner (points l.list)) l.start (walked l.n (next l.n l.start) (l.n - 1)))
-    (differing (corner (points l.list)) l.from (walked l.n (next l.n l.from) (l.n - l.i))) l.count l.kept
-    × (l.from < l.n) × (l.count ≤ l.i) × (l.i ≤ l.n) × (length l.kept ≡ length l.initial.kept)
-
-abbrev pub decreases-loop-i : goal.decreases-loop-i
-decreases-loop-i l = l.n - l.i
+    (differing (corner (points l.list)) l.from (walked l.n (next l.n l.from) (l.n - l.counter))) l.count l.kept
+    × (l.from < l.n) × (l.count ≤ l.counter)

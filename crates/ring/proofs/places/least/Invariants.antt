@@ -1,11 +1,7 @@
 use mathlib.Core.Path.{◌≡◌}
-use Prim.Native.Nat.{◌-◌, ◌≤◌}
 use Rattle.plane.specs.Point.{points, corner}
 use Rattle.ring.specs.Ring.{least_place}
 use Rattle.ring.proofs.places.least.Given as goal
 
 abbrev pub invariant-loop-i : goal.invariant-loop-i
-invariant-loop-i l = (l.best ≡ least_place (corner (points l.list)) l.i) × (l.i ≤ l.n)
-
-abbrev pub decreases-loop-i : goal.decreases-loop-i
-decreases-loop-i l = l.n - l.i
+invariant-loop-i l = (l.best ≡ least_place (corner (points l.list)) l.i)

@@ -1,19 +1,19 @@
--- `arrange` meets its contract. The invariant: k points are in the buffer; the measure is what is left.
+-- `arrange` meets its contract. The invariant: k points are in the buffer.
 use mathlib.Core.Path.{◌≡◌, sym, ◌∙◌, ap, subst}
 use mathlib.Core.List.{List, map}
-use Prim.Native.Nat.{ℕ, ◌+◌, ◌*◌, zero-le}
+use Prim.Native.Nat.{ℕ, ◌+◌, ◌*◌}
 use native.Mathlib.Omega.{arith}
 use lib.IntN.{ℤ}
 use lib.ListN.{length, length-map}
 use Rattle.plane.specs.Point.{Point, points, numbers, corner}
 use Rattle.plane.proofs.theory.lists.Flat.{numbers-length}
-use Rattle.plane.proofs.theory.lists.Filled.{Filled, filled-start, filled-length, filled-corner, filled-done}
+use Rattle.plane.proofs.theory.lists.Filled.{Filled, filled-corner, filled-done}
 use Rattle.ring.specs.Round.{in_sense}
 use Rattle.ring.specs.Ring.{walked}
 use Rattle.ring.specs.theory.Steps.{map_at, sense-length}
 use Rattle.ring.specs.theory.Under.{walked-length}
 use Rattle.ring.proofs.standard.arrange.Goals as goal
-use Rattle.ring.proofs.standard.arrange.Goals.{At-loop-k, Start}
+use Rattle.ring.proofs.standard.arrange.Goals.{Start}
 
 -- the positions, and their points
 module _ (c : Start) where
@@ -31,54 +31,16 @@ module _ (c : Start) where
   two-each : length (numbers (map f places)) ≡ 2 * c.args.n
   two-each = numbers-length (map f places) ∙ ap (λ (n : ℕ). 2 * n) (length-map places f ∙ counted)
 
-pub loop-k-init : goal.loop-k-init
-loop-k-init c = (filled-start _ _, zero-le)
-
-length-kept : (c : At-loop-k) → length c.loop-k.shape ≡ length c.args.shape.now
-length-kept c =
-    filled-length c.loop-k.invariant.0 (omega (arith, two-each c.before, c.loop-k.invariant.1))
-    (omega (arith, c.requires.2, c.loop-k.invariant.1))
-
-pub place_at-requires : goal.place_at-requires
-place_at-requires c = (c.requires.1, c.loop-k-test.true)
-
-pub corner_at-requires : goal.corner_at-requires
-corner_at-requires c = omega (arith, c.requires.0, c.place_at.ensures.1)
-
-pub put-requires : goal.put-requires
-put-requires c =
-    omega (arith, c.loop-k-test.true, c.requires.2, length-kept c.before.before.before.before)
-
 pub loop-k-preserved : goal.loop-k-preserved
 loop-k-preserved c =
+    let begin = (goal.at.loop-k-preserved c).Start in
     let k = c.loop-k.k in
-    let ps = map (f c.before.before.before.before.before.before.before) (places c.before.before.before.before.before.before.before) in
-    let at = c.corner_at.ensures ∙ ap (f c.before.before.before.before.before.before.before) c.place_at.ensures.0
-    ∙ sym (map_at (f c.before.before.before.before.before.before.before) (places c.before.before.before.before.before.before.before) k
-    (omega (arith, c.loop-k-test.true, counted c.before.before.before.before.before.before.before))) in (
-      subst (λ (out : List ℤ). Filled c.args.shape.now (numbers ps) (2 * (k + 1)) out) (sym c.put.ensures)
-          (filled-corner ps k c.loop-k.invariant.0
-          (omega (
-            arith,
-            c.loop-k-test.true,
-            counted c.before.before.before.before.before.before.before,
-            length-map
-                (places c.before.before.before.before.before.before.before) (f c.before.before.before.before.before.before.before),
-          ))
-          (omega (arith, two-each c.before.before.before.before.before.before.before, c.requires.2)) (ap (λ (p : Point). p.x) at)
-          (ap (λ (p : Point). p.y) at)),
-      omega (arith, c.loop-k-test.true),
-    )
-
-pub shape_of-shape : goal.shape_of-shape
-shape_of-shape c = length-kept c.before
+    let ps = map (f begin) (places begin) in
+    let at = c.corner_at.ensures ∙ ap (f begin) c.place_at-place.ensures.0
+    ∙ sym (map_at (f begin) (places begin) k (omega (arith, counted begin))) in
+    subst (λ (out : List ℤ). Filled c.args.shape.now (numbers ps) (2 * (k + 1)) out) (sym c.put.ensures)
+    (filled-corner ps k c.loop-k.invariant (omega (arith, counted begin, length-map (places begin) (f begin)))
+    (omega (arith, two-each begin)) (ap (λ (p : Point). p.x) at) (ap (λ (p : Point). p.y) at))
 
 pub returns : goal.returns
-returns c =
-    filled-done c.loop-k.invariant.0 (omega (arith, c.loop-k-test.false, c.loop-k.invariant.1, two-each c.before.before))
-
-pub overflow_add-k : goal.overflow_add-k
-overflow_add-k c = omega arith
-
-pub loop-k-smaller : goal.loop-k-smaller
-loop-k-smaller c = omega arith
+returns c = filled-done c.loop-k.invariant (omega (arith, two-each (goal.at.returns c).Start))

@@ -1,5 +1,5 @@
--- `bends` meets its contract. The invariant: what is stored, and the corners from j on, are all; the measure is what is left.
-use mathlib.Core.Path.{◌≡◌, refl, sym, ◌∙◌, ap, ap₂, subst}
+-- `bends` meets its contract. The invariant: what is stored, and the corners from j on, are all.
+use mathlib.Core.Path.{◌≡◌, sym, ◌∙◌, ap, ap₂, subst}
 use mathlib.Core.Bool.{Bool, not}
 use mathlib.Core.List.{List, ◌++◌}
 use Prim.Native.Nat.{ℕ, ◌+◌, ◌<◌, zero-le}
@@ -23,20 +23,12 @@ pub loop-j-init : goal.loop-j-init
 loop-j-init c = (
   record { joined = bends-start (corner (points c.args.list.now)) (sense (goal.at.loop-j-init c).Start); within = zero-le },
   zero-le,
-  zero-le,
-  refl,
 )
-
-pub bends_at-bend-requires : goal.bends_at-bend-requires
-bends_at-bend-requires c = (c.requires.0, c.loop-j-test.true)
-
-pub place-requires : goal.place-requires
-place-requires c = c.loop-j-test.true
 
 -- the buffer has room for one more
 room : (c : In-loop-j) → c.loop-j.count < length c.loop-j.bent
 room c =
-    omega (arith, c.loop-j-test.true, c.requires.1, c.loop-j.invariant.1, c.loop-j.invariant.3)
+    omega (arith, c.loop-j-test.true, c.requires.1, c.loop-j.invariant.1)
 
 pub keep-count-requires : goal.keep-count-requires
 keep-count-requires c = room (goal.at.keep-count-requires c).In-loop-j
@@ -58,26 +50,15 @@ loop-j-preserved c =
           c.keep-count.ensures.0
           (omega (arith, c.keep-count.ensures.1, c.keep-count.ensures.2, room (goal.at.loop-j-preserved c).In-loop-j)),
       omega (arith, c.keep-count.ensures.1, c.loop-j.invariant.1),
-      omega (arith, c.loop-j-test.true),
-      c.keep-count.ensures.2 ∙ c.loop-j.invariant.3,
     )
-
-pub shape_of-bent : goal.shape_of-bent
-shape_of-bent c = c.loop-j.invariant.3
 
 pub returns : goal.returns
 returns c =
     let f = corner (points c.args.list.now) in
     let xs = sense (goal.at.returns c).Start in
     let whole : c.loop-j.j ≡ length xs =
-    omega (arith, c.loop-j-test.false, c.loop-j.invariant.2, sense-length c.args.back c.args.kept.now) in
+    omega (arith, c.loop-j-test.false, sense-length c.args.back c.args.kept.now) in
     let over = ap (λ (i : ℕ). drop i xs) whole ∙ drop-length xs in
     coming-end (subst (λ (l : List ℕ). Coming (bends f xs)
     (bending f (get_or xs (previous (length xs) c.loop-j.j) 0) l (get_or xs 0 0)) c.loop-j.count c.loop-j.bent) over
     c.loop-j.invariant.0)
-
-pub overflow_add-j : goal.overflow_add-j
-overflow_add-j c = omega arith
-
-pub loop-j-smaller : goal.loop-j-smaller
-loop-j-smaller c = omega arith

@@ -1,5 +1,4 @@
-use mathlib.Core.Path.{◌≡◌}
-use Prim.Native.Nat.{◌-◌, ◌≤◌}
+use Prim.Native.Nat.{◌≤◌}
 use lib.ListN.{length, get_or, drop}
 use Rattle.plane.specs.Point.{points, corner}
 use Rattle.ring.specs.Round.{in_sense, bending, bends}
@@ -12,7 +11,4 @@ invariant-loop-j l =
     let xs = in_sense l.back l.kept in
     Coming (bends (corner (points l.list)) xs)
     (bending (corner (points l.list)) (get_or xs (previous (length xs) l.j) 0) (drop l.j xs) (get_or xs 0 0)) l.count l.bent
-    × (l.count ≤ l.j) × (l.j ≤ l.m) × (length l.bent ≡ length l.initial.bent)
-
-abbrev pub decreases-loop-j : goal.decreases-loop-j
-decreases-loop-j l = l.m - l.j
+    × (l.count ≤ l.j)

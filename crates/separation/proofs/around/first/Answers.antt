@@ -2,7 +2,6 @@
 use mathlib.Core.Path.{◌≡◌, refl, sym, ◌∙◌, ap, subst}
 use Prim.Native.Nat.{zero-le}
 use mathlib.Core.Bool.{false}
-use native.Mathlib.Omega.{arith}
 use Rattle.calipers.specs.Image.{image}
 use Rattle.calipers.specs.Side.{walk_of}
 use Rattle.calipers.specs.Walk.{here, begun, At}
@@ -11,12 +10,6 @@ use Rattle.separation.specs.theory.Image.{image-begun}
 use Rattle.separation.specs.theory.Stops.{on_below, corner-here}
 use Rattle.separation.proofs.around.first.Goals as goal
 use Rattle.separation.proofs.around.first.Goals.{After-side_at-2, Start}
-
-pub side_at-requires : goal.side_at-requires
-side_at-requires c = (omega arith, c.requires.0.in_range, c.requires.0.shape.some)
-
-pub side_at-requires-2 : goal.side_at-requires-2
-side_at-requires-2 c = let pre = c.requires in (pre.1, pre.2, omega arith)
 
 starts : (c : Start) → At c.args.a.now (image c.args.b.now) begun
 starts c = image-begun _ _ c.requires.0 c.requires.1

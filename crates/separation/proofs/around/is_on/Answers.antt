@@ -1,7 +1,6 @@
 -- `is_on` meets its contract: the first edge of the sum, and the value of its ends.
 use mathlib.Core.Path.{◌≡◌, refl, ◌∙◌, ap, ap₂}
 use mathlib.Core.Bool.{Bool, false}
-use native.Mathlib.Omega.{arith}
 use lib.IntN.{ℤ, pos}
 use lib.ListN.{length}
 use lib.Signed.{le_z}
@@ -16,18 +15,12 @@ use Rattle.polygon.specs.theory.Small.{small-plus}
 use Rattle.calipers.specs.Image.{image}
 use Rattle.calipers.specs.Side.{walk_of}
 use Rattle.calipers.specs.Walk.{begun, At}
-use Rattle.calipers.specs.theory.Carry.{sides-walk, sides-here, sides-advanced, sides-at, first_next, corners-fit, edges_fit}
+use Rattle.calipers.specs.theory.Carry.{sides-walk, sides-here, sides-advanced, sides-at, corners-fit, edges_fit}
 use Rattle.separation.specs.Around.{origin_on}
 use Rattle.separation.specs.theory.Image.{image-begun}
 use Rattle.separation.proofs.Passing.{passing-start, passing-corners}
 use Rattle.separation.proofs.around.is_on.Goals as goal
 use Rattle.separation.proofs.around.is_on.Goals.{After-dot, After-next-n, After-side_at-t, Start}
-
-pub side_at-s-requires : goal.side_at-s-requires
-side_at-s-requires c = (omega arith, c.requires.0.in_range, c.requires.0.shape.some)
-
-pub side_at-t-requires : goal.side_at-t-requires
-side_at-t-requires c = let pre = c.requires in (pre.1, pre.2, omega arith)
 
 -- the walk may begin
 starts : (c : Start) → At c.args.a.now (image c.args.b.now) begun
@@ -44,14 +37,6 @@ stands c = rw (begins c) (starts c.before.before)
 
 pub order-c-requires : goal.order-c-requires
 order-c-requires c = edges_fit (stands c) c.side_at-s.ensures.1 c.side_at-t.ensures.1
-
-pub next-m-requires : goal.next-m-requires
-next-m-requires c = first_next (stands c.before) c.side_at-s.ensures.1 c.side_at-t.ensures.1
-
-pub next-n-requires : goal.next-n-requires
-next-n-requires c =
-    let pre = c.requires in
-    (pre.1, pre.2, c.side_at-t.ensures.1)
 
 pub here-requires : goal.here-requires
 here-requires c =

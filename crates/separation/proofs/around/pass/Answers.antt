@@ -1,12 +1,13 @@
 -- `pass` meets its contract. The invariant: `count` edges are passed and none has the origin to its right, and the walk with these two
 -- sides is as far and not over; the measure: what is left.
-use mathlib.Core.Path.{◌≡◌, refl, sym, ◌∙◌, ap, ap₂, subst}
-use mathlib.Core.Bool.{Bool, true, false, cond, ◌||◌}
+use mathlib.Core.Path.{◌≡◌, refl, sym, ◌∙◌, ap₂, subst}
+use mathlib.Core.Bool.{Bool, false, cond, ◌||◌}
 use Prim.Native.Nat.{ℕ, ◌+◌, ◌-◌, ◌^◌, ◌<◌}
 use native.Mathlib.Omega.{arith}
-use borrow.Author.Tests.{eqb-true, eqb-false}
 use lib.Dec.{ltb}
 use lib.ListN.{length}
+use lib.IntN.{pos}
+use lib.Signed.{le_z}
 use mir.Syntax.{w64}
 use mir.Val.{to_z, of_z}
 use Rattle.integer.specs.Machine.{result-is}
@@ -14,7 +15,6 @@ use Rattle.plane.specs.Point.{points}
 use Rattle.plane.specs.Turn.{cross}
 use Rattle.plane.specs.Forms.{edges}
 use Rattle.plane.proofs.theory.lists.Flat.{points-length}
-use Rattle.plane.proofs.theory.lists.Sought.{either-false}
 use Rattle.plane.specs.Cut.{outward}
 use Rattle.polygon.specs.Point.{at}
 use Rattle.polygon.specs.theory.Small.{small-wide}
@@ -22,7 +22,7 @@ use Rattle.calipers.specs.Image.{image}
 use Rattle.calipers.specs.Side.{walk_of}
 use Rattle.calipers.specs.Walk.{here, finished, advanced, At}
 use Rattle.calipers.specs.theory.Carry.{all-passed, some_left, sides-here, sides-advanced, sides-at}
-use Rattle.calipers.specs.theory.Carry.{here-near, first_next, corners-fit, edges_fit}
+use Rattle.calipers.specs.theory.Carry.{here-near, corners-fit, edges_fit}
 use Rattle.calipers.specs.theory.Image.{image-count}
 use Rattle.separation.specs.Passing.{Passing}
 use Rattle.separation.specs.theory.Image.{image-few, image-sides}
@@ -31,17 +31,11 @@ use Rattle.separation.proofs.Passing.{
   passing-below,
   passing-count,
   passing-more,
-  passing-stop,
+  passing-out,
+  passing-end,
 }
 use Rattle.separation.proofs.around.pass.Goals as goal
-use Rattle.separation.proofs.around.pass.Goals.{After-cross-turn, After-here, After-next-n, After-stride-far, After-struct_known-5-1, Start}
-
-pub stride-far-requires : goal.stride-far-requires
-stride-far-requires c = c.requires
-
--- of two tests one passes
-other-is : {x y : Bool} → x ≡ false → (x || y) ≡ true → y ≡ true
-other-is {x} {y} e h = ap (λ (b : Bool). b || y) (sym e) ∙ h
+use Rattle.separation.proofs.around.pass.Goals.{After-cross-turn, After-here, After-next-n, After-stride-far, Start}
 
 -- their count fits
 fits : (c : Start) → let args = c.args in
@@ -58,9 +52,6 @@ overflow_add-count c =
     let p = c.stride-far.ensures in
     omega (arith, p.first-side.at_in, p.second-side.at_in, fits c.before.before.before.before.before.before.before)
 
-pub overflow_sub-count : goal.overflow_sub-count
-overflow_sub-count c = omega (arith, c.stride-far.ensures.counted)
-
 pub loop-m-init : goal.loop-m-init
 loop-m-init c =
     let args = c.args in
@@ -74,14 +65,6 @@ loop-m-init c =
 
 pub order-c-requires : goal.order-c-requires
 order-c-requires c = let inv = c.loop-m.invariant in edges_fit (passing-at inv.0) inv.1 inv.2
-
-pub next-m-requires : goal.next-m-requires
-next-m-requires c = let inv = c.loop-m.invariant in first_next (passing-at inv.0) inv.1 inv.2
-
-pub next-n-requires : goal.next-n-requires
-next-n-requires c =
-    let pre = c.requires in
-    (pre.1, pre.2, c.loop-m.invariant.2)
 
 pub here-from-requires : goal.here-from-requires
 here-from-requires c = let inv = c.loop-m.invariant in corners-fit (passing-at inv.0) inv.1 inv.2
@@ -130,9 +113,6 @@ cross-turn-requires c =
     let inv = c.loop-m.invariant in
     (small-wide (here-near (passing-at inv.0) (leaves c)), small-wide (here-near (steps c.before false) (arrives c false)))
 
-pub either-rim-requires : goal.either-rim-requires
-either-rim-requires c = tt
-
 pub overflow_add-count-in-loop-m : goal.overflow_add-count-in-loop-m
 overflow_add-count-in-loop-m c =
     let fewer = passing-count c.loop-m.invariant.0 refl in
@@ -146,14 +126,11 @@ overflow_add-m c =
     let at-loop = c.before.before.before.before.before.before.before.before.before.before in
     omega (arith, fits at-loop.before.before.before.before.before.before.before.before)
 
-pub either-requires : goal.either-requires
-either-requires c = tt
-
 pub passed_normal-requires : goal.passed_normal-requires
 passed_normal-requires c =
     let inv = c.loop-m.invariant in
     let first = corners-fit (passing-at inv.0) inv.1 inv.2 in
-    let second = corners-fit (steps c.before.before.before.before.before.before.before false) c.next-m.ensures.1 c.next-n.ensures.1 in
+    let second = corners-fit (steps c.before.before.before false) c.next-m.ensures.1 c.next-n.ensures.1 in
     (first.0, first.1, second.0, second.1)
 
 -- the turn of the edge that is passed
@@ -164,17 +141,23 @@ turn_is : (c : After-cross-turn) (end : Bool) →
     (here (points args.a.now) (points (image args.b.now)) (walk_of c.next-m.result c.next-n.result end))
 turn_is c end = result-is w64 c.cross-turn.type_inv (c.cross-turn.ensures ∙ ap₂ cross (leaves c.before) (arrives c.before end))
 
-pub returns-then-either : goal.returns-then-either
-returns-then-either c = let strode = c.stride-far.ensures in
+pub returns-then-turn-lt0 : goal.returns-then-turn-lt0
+returns-then-turn-lt0 c = let inv = c.loop-m.invariant in record {
+  passed = passing-out inv.0 refl (advances c.before.before.before.before)
+      (turn_is c.before.before _) c.if-turn-lt0.true c.passed_normal.result
+      (c.passed_normal.ensures ∙ ap₂ (cond (ltb c.loop-m.s.at c.next-m.result.at))
+      (ap₂ outward inv.1.corner-is c.next-m.ensures.1.corner-is)
+      (ap₂ outward inv.2.corner-is c.next-n.ensures.1.corner-is));
+  stood = record { count = c.loop-m.count; below = passing-below inv.0 refl; moved = inv.0.moved };
+}
+
+pub returns-then-m-n : goal.returns-then-m-n
+returns-then-m-n c = let strode = c.stride-far.ensures in
     let inv = c.loop-m.invariant in record {
-      passed = passing-stop inv.0 refl (advances c.before.before.before.before.before.before.before.before)
-          (turn_is c.before.before.before.before.before.before _) c.either-rim.ensures c.passed_normal.result
-          (c.passed_normal.ensures ∙ ap₂ (cond (ltb c.loop-m.s.at c.next-m.result.at))
-          (ap₂ outward inv.1.corner-is c.next-m.ensures.1.corner-is)
-          (ap₂ outward inv.2.corner-is c.next-n.ensures.1.corner-is))
-          (λ o. all-passed _ _ _ _ c.next-m.ensures.1.at_in c.next-n.ensures.1.at_in
-          (eqb-true _ _ (other-is o (sym c.either.ensures ∙ c.if-either.true))
-          ∙ image-sides strode.first-side strode.second-side)) _ _;
+      passed = passing-end (passing-more inv.0 refl (advances c.before.before.before.before.before.before)
+          (turn_is c.before.before.before.before _) c.if-turn-lt0.false refl)
+          (all-passed _ _ _ _ c.next-m.ensures.1.at_in c.next-n.ensures.1.at_in
+          (c.if-m-n.true ∙ image-sides strode.first-side strode.second-side));
       stood = record { count = c.loop-m.count; below = passing-below inv.0 refl; moved = inv.0.moved };
     }
 
@@ -187,13 +170,12 @@ loop-m-preserved c =
     let strode = c.stride-far.ensures in
     let inv = c.loop-m.invariant in
     let args = c.args in
-    let neither = either-false _ _ (sym c.either.ensures ∙ c.if-either.false) in
     let on = some_left _ _ c.next-m.result.at c.next-n.result.at
-    (λ e. eqb-false _ _ neither.1 (e ∙ sym (image-sides strode.first-side strode.second-side))) in (
+    (λ e. c.if-m-n.false (e ∙ sym (image-sides strode.first-side strode.second-side))) in (
       subst (λ (o : Bool). Passing args.a.now (image args.b.now) (walk_of c.next-m.result c.next-n.result o)
-          (c.loop-m.count + 1) c.either-rim.result) on
-          (passing-more inv.0 refl (advances c.before.before.before.before.before.before.before)
-          (turn_is c.before.before.before.before.before _) neither.0 c.either-rim.ensures),
+          (c.loop-m.count + 1) (c.loop-m.rim || le_z (to_z w64 (of_z w64 c.cross-turn.result)) (pos 0))) on
+          (passing-more inv.0 refl (advances c.before.before.before.before.before.before)
+          (turn_is c.before.before.before.before _) c.if-turn-lt0.false refl),
       c.next-m.ensures.1,
       c.next-n.ensures.1,
     )

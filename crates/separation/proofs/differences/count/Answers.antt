@@ -9,7 +9,7 @@ use Rattle.plane.specs.Point.{points}
 use Rattle.plane.proofs.theory.lists.Flat.{points-length}
 use Rattle.calipers.specs.Image.{image}
 use Rattle.calipers.specs.Walk.{begun}
-use Rattle.calipers.specs.theory.Carry.{first_next, edges_fit}
+use Rattle.calipers.specs.theory.Carry.{edges_fit}
 use Rattle.calipers.specs.theory.Image.{image-count}
 use Rattle.sums.specs.theory.Summed.{next-few}
 use Rattle.sums.proofs.Walked.{walked_start, walked_at, walked-below, walked_more, walked-over}
@@ -17,12 +17,6 @@ use Rattle.separation.specs.theory.Image.{image-begun, image-all, image-few, ima
 use Rattle.separation.proofs.differences.count.Goals as goal
 use Rattle.separation.proofs.differences.count.Goals.{At-loop-s}
 use Rattle.separation.proofs.differences.count.Invariants.{most}
-
-pub side_at-s-requires : goal.side_at-s-requires
-side_at-s-requires c = (omega arith, c.requires.0.in_range, c.requires.0.shape.some)
-
-pub side_at-t-requires : goal.side_at-t-requires
-side_at-t-requires c = let pre = c.requires in (pre.1, pre.2, omega arith)
 
 pub overflow_add-all : goal.overflow_add-all
 overflow_add-all c =
@@ -53,14 +47,6 @@ overflow_add-count c =
 
 pub order-c-requires : goal.order-c-requires
 order-c-requires c = let w = c.loop-s.invariant in edges_fit (walked_at w) w.first-side w.second-side
-
-pub next-s-requires : goal.next-s-requires
-next-s-requires c = let w = c.loop-s.invariant in first_next (walked_at w) w.first-side w.second-side
-
-pub next-t-requires : goal.next-t-requires
-next-t-requires c =
-    let pre = c.requires in
-    (pre.1, pre.2, c.loop-s.invariant.second-side)
 
 pub overflow_add-s : goal.overflow_add-s
 overflow_add-s c =

@@ -20,9 +20,3 @@ returns c =
     let B = points c.args.b.now in
     c.is_far.ensures ∙ far-sum A (mirrored B) c.requires.0.shape.some (mirrored-some B c.requires.1.shape.some)
     c.extent_of.ensures (image-extends B c.extent_of-e.ensures)
-
-pub extent_of-e-requires : goal.extent_of-e-requires
-extent_of-e-requires c = c.requires.1
-
-pub extent_of-requires : goal.extent_of-requires
-extent_of-requires c = c.requires.0

@@ -1,7 +1,7 @@
 -- `reckon` meets its contract: the corners of both shapes together bound those of the differences, or these are counted.
 use native.Mathlib.Omega.{arith}
 use Rattle.plane.proofs.theory.lists.Flat.{points-length}
-use Rattle.sums.specs.Size.{exact, enough}
+use Rattle.sums.specs.Size.{enough}
 use Rattle.separation.specs.theory.Image.{differences-few}
 use Rattle.separation.proofs.differences.reckon.Goals as goal
 
@@ -15,9 +15,3 @@ returns-then-suffices c =
     let fits = c.suffices.ensures c.if-suffices.true in
     let few = differences-few _ _ pre.0 pre.1 in
     enough (omega (arith, few, c.count.ensures, c.count-2.ensures)) fits.0 fits.1
-
-pub count-requires-3 : goal.count-requires-3
-count-requires-3 c = let pre = c.requires in (pre.0, pre.1, pre.2)
-
-pub returns : goal.returns
-returns c = exact c.count-3.ensures

@@ -10,12 +10,6 @@ use Rattle.separation.proofs.Striding.{strode-at, strode-alone, goes_on}
 use Rattle.separation.proofs.stride.alone.Goals as goal
 use Rattle.separation.proofs.stride.alone.Goals.{At-loop-n, Start}
 
-pub returns-then-s : goal.returns-then-s
-returns-then-s c = c.requires.3
-
-pub loop-n-init : goal.loop-n-init
-loop-n-init c = c.requires.3
-
 abbrev start : At-loop-n → Start
 start c = c.before.before.before
 
@@ -32,14 +26,6 @@ moment-requires c =
     let near = here-near (strode-at p) (c.here.ensures ∙ sides-here (strode-at p) p.first-side p.second-side) in
     (small-wide near, (edges_fit (strode-at p) p.first-side p.second-side).1)
 
-pub returns-then-moment-le0 : goal.returns-then-moment-le0
-returns-then-moment-le0 c = c.loop-n.invariant
-
-pub ahead-n-requires : goal.ahead-n-requires
-ahead-n-requires c =
-    let pre = c.requires in
-    (pre.1, pre.2, c.loop-n.invariant.second-side, c.loop-n-test.true)
-
 pub loop-n-smaller : goal.loop-n-smaller
 loop-n-smaller c =
     let p = c.loop-n.invariant in
@@ -50,6 +36,3 @@ loop-n-preserved c =
     strode-alone c.loop-n.invariant c.if-s.false c.loop-n-test.true c.here.ensures
     c.if-moment-le0.false (result-is w64 c.moment.type_inv c.moment.ensures) _ c.ahead-n.ensures.0
     c.ahead-n.ensures.1
-
-pub returns : goal.returns
-returns c = c.loop-n.invariant

@@ -23,12 +23,6 @@ use Rattle.separation.proofs.stride.stride.Goals as goal
 use Rattle.separation.proofs.stride.stride.Goals.{After-order-c, At-loop-from, Joined-c-gt0, Start, then-c-gt0+else-stays}
 use Rattle.separation.proofs.stride.stride.Goals.{else-c-gt0+then-c-lt0+else-moment-le0, else-c-gt0+else-c-lt0+else-joint_moment-le0}
 
-pub side_at-s-requires : goal.side_at-s-requires
-side_at-s-requires c = (omega arith, c.requires.0.in_range, c.requires.0.shape.some)
-
-pub side_at-requires : goal.side_at-requires
-side_at-requires c = let pre = c.requires in (pre.1, pre.2, omega arith)
-
 pub alone-t-requires : goal.alone-t-requires
 alone-t-requires c =
     let pre = c.requires in (
@@ -53,13 +47,6 @@ bound c p = omega (
 
 pub are_inside-requires : goal.are_inside-requires
 are_inside-requires c = let fits = bound c.before.before.before c.alone-t.ensures in (omega (arith, fits), omega (arith, fits))
-
-pub returns-then-not-are_inside : goal.returns-then-not-are_inside
-returns-then-not-are_inside c = c.alone-t.ensures
-
-pub loop-from-init : goal.loop-from-init
-loop-from-init c =
-    let three = c.are_inside.ensures (c.if-not-are_inside.false) in (c.alone-t.ensures, three.0, three.1)
 
 abbrev start : At-loop-from → Start
 start c = c.before.before.before.before.before.before
@@ -96,32 +83,11 @@ second-ahead c = let pre = c.requires in (pre.1, pre.2, c.loop-from.invariant.0.
 pub moment-stays-requires : goal.moment-stays-requires
 moment-stays-requires c = let f = fit c.before in (f.0, f.1)
 
-pub returns-then-stays : goal.returns-then-stays
-returns-then-stays c = c.loop-from.invariant.0
-
-pub ahead-s-requires : goal.ahead-s-requires
-ahead-s-requires c = first-ahead c.before.before.before.before.before
-
 pub moment-requires : goal.moment-requires
 moment-requires c = let f = fit c.before.before in (f.0, f.2)
 
-pub returns-then-moment-le0 : goal.returns-then-moment-le0
-returns-then-moment-le0 c = c.loop-from.invariant.0
-
-pub ahead-t-requires : goal.ahead-t-requires
-ahead-t-requires c = second-ahead c.before.before.before.before.before.before
-
 pub joint_moment-requires : goal.joint_moment-requires
 joint_moment-requires c = fit c.before.before
-
-pub returns-then-joint_moment-le0 : goal.returns-then-joint_moment-le0
-returns-then-joint_moment-le0 c = c.loop-from.invariant.0
-
-pub ahead-s-requires-else-c-lt0 : goal.ahead-s-requires-else-c-lt0
-ahead-s-requires-else-c-lt0 c = first-ahead c.before.before.before.before.before.before
-
-pub ahead-t-requires-else-c-lt0 : goal.ahead-t-requires-else-c-lt0
-ahead-t-requires-else-c-lt0 c = second-ahead c.before.before.before.before.before.before.before
 
 pub overflow_add-joined : goal.overflow_add-joined
 overflow_add-joined c =

@@ -12,19 +12,11 @@ use mir.Val.{hbits, to_z, of_z}
 use Rattle.integer.specs.Machine.{result-is}
 use Rattle.plane.specs.Point.{points}
 use Rattle.plane.proofs.theory.lists.Sought.{true-not-false}
-use Rattle.calipers.specs.theory.Carry.{first_next, second-next, corners-fit, edges_fit}
+use Rattle.calipers.specs.theory.Carry.{corners-fit, edges_fit}
 use Rattle.separation.proofs.Beside.{beside-start, is_right, beside-right, beside-more, beside-less, beside-all}
 use Rattle.separation.proofs.within.in_polygon.Goals as goal
-use Rattle.separation.proofs.within.in_polygon.Goals.{In-loop-t, Joined-passes, then-passes+else-turn-lt0, else-passes}
-
-pub count-n-requires : goal.count-n-requires
-count-n-requires c = tt
-
-pub side_at-s-requires : goal.side_at-s-requires
-side_at-s-requires c = let v = c.requires.0 in (omega arith, v.in_range, v.shape.some)
-
-pub side_at-t-requires : goal.side_at-t-requires
-side_at-t-requires c = let v = c.requires.1 in (omega arith, v.in_range, v.shape.some)
+use Rattle.separation.proofs.within.in_polygon.Goals.{In-loop-t, Joined-else-passes, else-passes-via-else-passes}
+use Rattle.separation.proofs.within.in_polygon.Goals.{else-passes-via-then-passes+else-turn-lt0}
 
 pub loop-t-init : goal.loop-t-init
 loop-t-init c =
@@ -57,27 +49,17 @@ pub returns-then-turn-lt0 : goal.returns-then-turn-lt0
 returns-then-turn-lt0 c =
     sym (beside-right c.loop-t.invariant (there c.before.before.before.before) (told c.turn.type_inv c.turn.ensures c.if-turn-lt0.true))
 
-pub next-s-requires : goal.next-s-requires
-next-s-requires c =
-    let inv = c.loop-t.invariant in
-    first_next inv.place inv.first-side inv.second-side
-
-pub next-t-requires : goal.next-t-requires
-next-t-requires c =
-    let inv = c.loop-t.invariant in
-    second-next inv.place inv.first-side inv.second-side
-
 pub loop-t-smaller : goal.loop-t-smaller
 loop-t-smaller c =
     beside-less c.loop-t.invariant (there c.before.before.before.before) c.next-s.result c.next-t.result
     (result-is w64 c.order-c.type_inv c.order-c.ensures) c.next-s.ensures.0 c.next-t.ensures.0
 
 -- where the edge is passed, the corner at hand is not to its right
-asked : (c : Joined-passes) →
+asked : (c : Joined-else-passes) →
     le_z (to_z w64 (of_z w64 c.order-c.result)) (pos 0) ≡ true → is_right c.loop-t.s c.loop-t.t ≡ false
-asked c e = elim c.if-passes.branch [
-  | then-passes+else-turn-lt0 w ↦ told w.turn.type_inv w.turn.ensures w.if-turn-lt0.false
-  | else-passes w ↦ true-not-false e w.if-passes.false
+asked c e = elim c.else-passes.branch [
+  | else-passes-via-then-passes+else-turn-lt0 w ↦ told w.turn.type_inv w.turn.ensures w.if-turn-lt0.false
+  | else-passes-via-else-passes w ↦ true-not-false e w.if-passes.false
 ]
 
 pub loop-t-preserved : goal.loop-t-preserved

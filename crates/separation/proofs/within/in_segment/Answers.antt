@@ -1,9 +1,8 @@
--- `in_segment` meets its contract. The invariant: the corners passed are on the segment; the measure is what is left.
+-- `in_segment` meets its contract. The invariant: the corners passed are on the segment.
 use mathlib.Core.List.{[], ◌∷◌}
 use mathlib.Core.Path.{◌≡◌, sym, ◌∙◌, ap}
 use Prim.Native.Nat.{◌<◌}
 use native.Mathlib.Omega.{arith}
-use borrow.Author.Count.{below_more}
 use lib.ListN.{length}
 use Rattle.plane.specs.Point.{Point, points, corner}
 use Rattle.plane.specs.Separation.{inside}
@@ -13,18 +12,9 @@ use Rattle.separation.specs.theory.Within.{corners-inside, corner-outside}
 use Rattle.separation.proofs.within.in_segment.Goals as goal
 use Rattle.separation.proofs.within.in_segment.Goals.{After-on_segment, In-loop-i}
 
-pub count-n-requires : goal.count-n-requires
-count-n-requires c = tt
-
-pub loop-i-init : goal.loop-i-init
-loop-i-init c = (omega arith, λ k h. absurd (omega arith))
-
 -- there is a corner at i
 corner-there : (c : In-loop-i) → c.loop-i.i < length (points c.args.a.now)
-corner-there c = omega (arith, c.loop-i-test.true, c.count-n.ensures)
-
-pub corner_at-requires : goal.corner_at-requires
-corner_at-requires c = corner-there c
+corner-there c = omega (arith, c.count-i-end.ensures)
 
 pub on_segment-requires : goal.on_segment-requires
 on_segment-requires c =
@@ -45,20 +35,8 @@ returns-then-not-on_segment c =
     sym (corner-outside (points args.a.now) (at args.p ∷ at args.q ∷ []) (omega arith) c.loop-i.i
     (corner-there c.before.before.before) (sym (asked c.before) ∙ c.if-not-on_segment.true))
 
-pub overflow_add-i : goal.overflow_add-i
-overflow_add-i c = omega (arith, c.loop-i-test.true)
-
-pub loop-i-smaller : goal.loop-i-smaller
-loop-i-smaller c = omega (arith, c.loop-i-test.true)
-
-pub loop-i-preserved : goal.loop-i-preserved
-loop-i-preserved c = (
-  omega (arith, c.loop-i-test.true),
-  below_more _ _ c.loop-i.invariant.1 (sym (asked c.before) ∙ c.if-not-on_segment.false),
-)
-
 pub returns : goal.returns
 returns c =
     sym (corners-inside (points c.args.a.now) (at c.args.p ∷ at c.args.q ∷ []) (omega arith)
     c.requires.0.shape.some
-    (λ k h. c.loop-i.invariant.1 k (omega (arith, c.loop-i-test.false, c.count-n.ensures))))
+    (λ k h. c.loop-i.invariant k (omega (arith, c.count-i-end.ensures))))

@@ -2,6 +2,7 @@
 use mathlib.Core.Path.{◌≡◌, sym, ◌∙◌, ap, ap₂}
 use lib.IntN.{ℤ, pos}
 use lib.Signed.{le_z}
+use borrow.Author.Tests.{ne_eqb}
 use mir.Syntax.{w64}
 use mir.Val.{to_z, of_z}
 use Rattle.integer.specs.Machine.{result-is}
@@ -23,17 +24,15 @@ crossed : (c : After-cross) →
     c.cross.result ≡ cross (at c.args.p ⊖ at c.args.x) (at c.args.q ⊖ at c.args.x)
 crossed c = c.cross.ensures ∙ ap₂ cross c.step-to_first.ensures c.step-to_last.ensures
 
-pub returns-then-cross-ne0 : goal.returns-then-cross-ne0
-returns-then-cross-ne0 c =
-    sym (segment-off (at c.args.p) (at c.args.q) (at c.args.x)
-    (λ e. c.if-cross-ne0.true (ap (of_z w64) (crossed c.before ∙ e))))
+pub returns-else-cross-eq0 : goal.returns-else-cross-eq0
+returns-else-cross-eq0 c =
+    ne_eqb _ _ c.if-cross-eq0.false
+    ∙ sym (segment-off (at c.args.p) (at c.args.q) (at c.args.x)
+    (λ e. c.if-cross-eq0.false (ap (of_z w64) (crossed c.before ∙ e))))
 
-pub dot-requires : goal.dot-requires
-dot-requires c = cross-requires c.before.before
-
-pub returns : goal.returns
-returns c =
+pub returns-then-cross-eq0 : goal.returns-then-cross-eq0
+returns-then-cross-eq0 c =
     let steps = ap₂ value c.step-to_first.ensures c.step-to_last.ensures in
     ap (λ (z : ℤ). le_z z (pos 0)) (result-is w64 c.dot.type_inv (c.dot.ensures ∙ steps))
     ∙ segment-level (at c.args.p) (at c.args.q) (at c.args.x)
-    (sym (result-is w64 c.cross.type_inv (crossed c.before.before)) ∙ ap (to_z w64) c.if-cross-ne0.false)
+    (sym (result-is w64 c.cross.type_inv (crossed c.before.before)) ∙ ap (to_z w64) c.if-cross-eq0.true)

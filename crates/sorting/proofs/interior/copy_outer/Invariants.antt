@@ -1,10 +1,6 @@
-use Prim.Native.Nat.{◌-◌}
 use Rattle.plane.specs.Point.{points}
 use Rattle.sorting.specs.theory.Interior.{Sifting}
 use Rattle.sorting.proofs.interior.copy_outer.Given as goal
 
 abbrev pub invariant-loop-i : goal.invariant-loop-i
 invariant-loop-i l = Sifting l.inner (points l.list) l.initial.buf l.i l.k l.buf
-
-abbrev pub decreases-loop-i : goal.decreases-loop-i
-decreases-loop-i l = l.n - l.i

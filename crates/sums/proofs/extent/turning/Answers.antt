@@ -19,12 +19,6 @@ loop-low-init c = record {
   stops = λ h. absurd (omega (arith, h));
 }
 
-pub overflow_sub-middle : goal.overflow_sub-middle
-overflow_sub-middle c = omega arith
-
-pub overflow_add-middle : goal.overflow_add-middle
-overflow_add-middle c = omega (arith, c.loop-low.invariant.within)
-
 -- the middle is before the end
 inside : (c : In-loop-low) →
     c.loop-low.low + (c.loop-low.high - c.loop-low.low) / 2 < c.loop-low.high
@@ -34,12 +28,6 @@ pub goes_on-requires : goal.goes_on-requires
 goes_on-requires c =
     let pre = c.requires in
     (omega (arith, inside c, c.loop-low.invariant.within, pre.1), pre.2, pre.3)
-
-pub overflow_add-low : goal.overflow_add-low
-overflow_add-low c = omega (arith, inside c.before.before, c.loop-low.invariant.within)
-
-pub loop-low-smaller-then-goes_on : goal.loop-low-smaller-then-goes_on
-loop-low-smaller-then-goes_on c = omega (arith, inside c.before.before)
 
 pub loop-low-preserved-then-goes_on : goal.loop-low-preserved-then-goes_on
 loop-low-preserved-then-goes_on c =
@@ -56,9 +44,6 @@ loop-low-preserved-then-goes_on c =
           (le_z-true (sym c.goes_on.ensures ∙ c.if-goes_on.true));
       stops = inv.stops;
     }
-
-pub loop-low-smaller : goal.loop-low-smaller
-loop-low-smaller c = omega (arith, inside c.before.before)
 
 pub loop-low-preserved : goal.loop-low-preserved
 loop-low-preserved c =

@@ -11,7 +11,7 @@ use Rattle.plane.specs.Point.{points}
 use Rattle.plane.specs.Forms.{edges}
 use Rattle.plane.proofs.theory.lists.Flat.{points-length}
 use Rattle.sums.specs.Advance.{state}
-use Rattle.calipers.specs.theory.Carry.{first_next, second-next, edges_fit}
+use Rattle.calipers.specs.theory.Carry.{edges_fit}
 use Rattle.sums.specs.theory.Summed.{next-few}
 use Rattle.sums.proofs.Walked.{edges-sum, all_edges, walked-with, walked_at, walked-below, walked_more, walked-spent, walked-over}
 use Rattle.sums.proofs.size.count_on.Goals as goal
@@ -28,9 +28,6 @@ pub overflow_add-all : goal.overflow_add-all
 overflow_add-all c =
     let sizes = c.well_formed in
     omega (arith, all c, edges-sum c.args.a.now c.args.b.now (omega (arith, sizes.0)) (omega (arith, sizes.1.0)))
-
-pub side_at-s-requires : goal.side_at-s-requires
-side_at-s-requires c = let p = c.requires.0 in (c.begin-far.ensures.first-side.at_in, p.first-near, p.first-shape.some)
 
 pub side_at-t-requires : goal.side_at-t-requires
 side_at-t-requires c =
@@ -58,12 +55,6 @@ overflow_add-count c =
 
 pub order-c-requires : goal.order-c-requires
 order-c-requires c = let w = c.loop-s.invariant in edges_fit (walked_at w) w.first-side w.second-side
-
-pub next-s-requires : goal.next-s-requires
-next-s-requires c = let w = c.loop-s.invariant in first_next (walked_at w) w.first-side w.second-side
-
-pub next-t-requires : goal.next-t-requires
-next-t-requires c = let w = c.loop-s.invariant in second-next (walked_at w) w.first-side w.second-side
 
 pub overflow_add-s : goal.overflow_add-s
 overflow_add-s c =
@@ -95,6 +86,3 @@ loop-s-preserved c =
     walked_more c.loop-s.invariant (result-is w64 c.order-c.type_inv c.order-c.ensures) _ _
     c.next-s.ensures.0 c.next-t.ensures.0 c.next-s.ensures.1 c.next-t.ensures.1
     (λ e. c.if-s-t.false (e ∙ sym (all c.before.before.before.before.before.before.before.before))) c.if-count-k.false
-
-pub begin-far-requires : goal.begin-far-requires
-begin-far-requires c = c.requires

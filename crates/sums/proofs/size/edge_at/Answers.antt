@@ -1,7 +1,5 @@
 -- `edge_at` meets its contract.
-use mathlib.Core.Path.{◌∙◌, ap₂}
 use native.Mathlib.Omega.{arith}
-use Rattle.plane.specs.Point.{◌⊖◌}
 use Rattle.plane.proofs.theory.lists.Flat.{points-length}
 use Rattle.polygon.specs.theory.Small.{small-corner}
 use Rattle.sums.proofs.size.edge_at.Goals as goal
@@ -15,6 +13,3 @@ step-requires c =
       small-corner _ pre.1 _ (omega (arith, pre.0)) c.corner_at.ensures,
       small-corner _ pre.1 _ pre.0 c.corner_at-2.ensures,
     )
-
-pub returns : goal.returns
-returns c = c.step.ensures ∙ ap₂ (λ p q. q ⊖ p) c.corner_at.ensures c.corner_at-2.ensures

@@ -3,12 +3,6 @@ use mathlib.Core.Path.{◌∙◌}
 use Rattle.polygon.specs.theory.Extents.{extends-small, far-sum}
 use Rattle.sums.proofs.size.is_far.Goals as goal
 
-pub extent_of-requires : goal.extent_of-requires
-extent_of-requires c = c.requires.0
-
-pub extent_of-requires-2 : goal.extent_of-requires-2
-extent_of-requires-2 c = c.requires.1
-
 pub is_far-requires : goal.is_far-requires
 is_far-requires c =
     let pre = c.requires in

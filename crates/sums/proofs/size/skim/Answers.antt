@@ -27,12 +27,6 @@ use Rattle.sums.proofs.Walked.{side_of-carried, walked_start, walked-below, walk
 use Rattle.sums.proofs.size.skim.Goals as goal
 use Rattle.sums.proofs.size.skim.Goals.{At-loop-c, In-loop-c}
 
-pub sides-m-requires : goal.sides-m-requires
-sides-m-requires c = tt
-
-pub sides-n-requires : goal.sides-n-requires
-sides-n-requires c = tt
-
 pub loop-c-init : goal.loop-c-init
 loop-c-init c =
     let a = c.args.a.now in
@@ -125,9 +119,6 @@ cross-c-requires c =
       edge-small _ place.second-near _ (corners-there c.before.before).1 c.edge_at-in-loop-c.ensures,
     )
 
-pub overflow_add-count : goal.overflow_add-count
-overflow_add-count c = omega (arith, count_small c.before.before.before.before.before)
-
 pub one_more-first-requires : goal.one_more-first-requires
 one_more-first-requires c = first_small c.before.before.before.before.before
 
@@ -154,6 +145,3 @@ loop-c-preserved c =
     (passed-carried a (lt_z product (pos 0)) _ _ c.one_more-first.ensures left.0)
     (passed-carried b (lt_z (pos 0) product) _ _ c.one_more-second.ensures left.1)
     left.0 left.1 left.2
-
-pub returns : goal.returns
-returns c = c.loop-c.invariant

@@ -1,24 +1,15 @@
 -- `follows` meets its contract: no edge is passed, or none is next, or two sides compare them.
 use mathlib.Core.Path.{sym, ◌∙◌, ap, ap₂}
 use native.Mathlib.Omega.{arith}
-use borrow.Author.Tests.{eq-eqb, ne_eqb}
+use borrow.Author.Tests.{ne_eqb}
 use Rattle.plane.specs.Point.{points, corner}
 use Rattle.plane.specs.Forms.{before, edges}
 use Rattle.calipers.specs.theory.Sides.{edge-fits}
 use Rattle.sums.proofs.walk.follows.Goals as goal
 
-pub returns-then-i-eq0 : goal.returns-then-i-eq0
-returns-then-i-eq0 c = rw (eq-eqb _ 0 c.if-i-eq0.true)
-
-pub returns-then-j-sides : goal.returns-then-j-sides
-returns-then-j-sides c = rw (ne_eqb _ 0 c.if-i-eq0.false, eq-eqb _ _ (c.if-j-sides.true ∙ c.sides.ensures))
-
 pub side_at-requires : goal.side_at-requires
 side_at-requires c =
     let pre = c.requires in (omega (arith, pre.0), pre.2.in_range, pre.2.shape.some)
-
-pub side_at-requires-2 : goal.side_at-requires-2
-side_at-requires-2 c = let pre = c.requires in (pre.1, pre.3.in_range, pre.3.shape.some)
 
 pub is_before-requires : goal.is_before-requires
 is_before-requires c =

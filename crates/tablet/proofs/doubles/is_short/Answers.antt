@@ -1,4 +1,5 @@
 -- `is_short` meets its contract.
+use mathlib.Core.Path.{◌∙◌}
 use lib.Ieee.{of_bits, neg}
 use Rattle.tablet.proofs.theory.Tested.{short-tested, short-low}
 use Rattle.tablet.proofs.doubles.is_short.Goals as goal
@@ -7,6 +8,6 @@ pub returns-then-v : goal.returns-then-v
 unfolding of_bits neg
 returns-then-v c = short-tested c.args.v c.requires c.if-v.true
 
-pub returns : goal.returns
+pub returns-else-v : goal.returns-else-v
 unfolding of_bits neg
-returns c = short-low c.args.v c.requires c.if-v.false
+returns-else-v c = c.if-v.false ∙ short-low c.args.v c.requires c.if-v.false

@@ -4,6 +4,7 @@ use lib.Ieee.{Float, binary64, of_bits, neg, eq, of_int}
 use Rattle.integer.specs.Machine.{result-is}
 use Rattle.tablet.proofs.theory.Tested.{cuttable, whole-tested, large-high, large-low}
 use Rattle.tablet.proofs.doubles.is_whole.Goals as goal
+use Rattle.tablet.proofs.doubles.is_whole.Goals.{else-v-via-then-v+else-v-2, else-v-via-else-v}
 
 pub truncating_f64_to_i64-requires : goal.truncating_f64_to_i64-requires
 unfolding of_bits neg
@@ -18,11 +19,9 @@ returns-then-v-2 c =
     ap (λ (x : Float). eq x c.args.v) (c.nearest_i64_to_f64.ensures ∙ ap (of_int binary64) cut)
     ∙ whole-tested c.args.v c.requires.1 c.if-v.true c.if-v-2.true
 
-pub returns-else-v-2 : goal.returns-else-v-2
+pub returns : goal.returns
 unfolding of_bits neg
-returns-else-v-2 c =
-    large-high c.args.v c.requires.0 c.requires.1 c.if-v.true c.if-v-2.false
-
-pub returns-else-v : goal.returns-else-v
-unfolding of_bits neg
-returns-else-v c = large-low c.args.v c.requires.0 c.requires.1 c.if-v.false
+returns c = elim c.else-v.branch [
+  | else-v-via-then-v+else-v-2 w ↦ large-high c.args.v c.requires.0 c.requires.1 w.if-v.true w.if-v-2.false
+  | else-v-via-else-v w ↦ large-low c.args.v c.requires.0 c.requires.1 w.if-v.false
+]

@@ -5,9 +5,9 @@ use lib.Ieee.Casts.{to_signed_in}
 use Rattle.integer.specs.Machine.{result-is}
 use Rattle.tablet.proofs.theory.Tested.{castable, cast_is, zero_is}
 use Rattle.tablet.proofs.doubles.number.Goals as goal
-use Rattle.tablet.proofs.doubles.number.Goals.{After-row_known-1}
+use Rattle.tablet.proofs.doubles.number.Goals.{Else-v}
 
-taken : (c : After-row_known-1) → T (in_signed binary64 31 c.args.v)
+taken : (c : Else-v) → T (in_signed binary64 31 c.args.v)
 unfolding of_bits
 taken c =
     let pre = c.requires in
@@ -18,7 +18,7 @@ unfolding of_bits
 returns-then-v c = zero_is c.args.v c.requires.0 c.if-v.true
 
 pub float_to_int-result : goal.float_to_int-result
-float_to_int-result c = taken c
+float_to_int-result c = taken (goal.at.float_to_int-result c).Else-v
 
 pub returns : goal.returns
-returns c = result-is w32 (to_signed_in 31 c.args.v) (cast_is c.args.v (taken c))
+returns c = result-is w32 (to_signed_in 31 c.args.v) (cast_is c.args.v (taken (goal.at.returns c).Else-v))

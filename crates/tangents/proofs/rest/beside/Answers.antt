@@ -17,8 +17,8 @@ returns-then-forward c =
 pub previous-requires : goal.previous-requires
 previous-requires c = c.requires
 
-pub returns : goal.returns
-returns c =
+pub returns-else-forward : goal.returns-else-forward
+returns-else-forward c =
     let args = c.args in (
       c.previous.ensures.0,
       subst (λ (b : Bool). Beside b args.n args.i c.previous.result) (sym c.if-forward.false) c.previous.ensures.1,

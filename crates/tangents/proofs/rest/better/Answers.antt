@@ -8,7 +8,7 @@ use Rattle.plane.specs.Point.{points, corner}
 use Rattle.plane.specs.Shape.{next}
 use Rattle.polygon.specs.Point.{at}
 use Rattle.tangents.specs.Draws.{draws}
-use Rattle.tangents.specs.theory.NeighboursSuffice.{better-moved, better-rests}
+use Rattle.tangents.specs.theory.NeighboursSuffice.{better-rests}
 use Rattle.tangents.proofs.rest.better.Goals as goal
 use Rattle.tangents.proofs.rest.better.Goals.{After-drawn, After-drawn-2, After-previous-before, Else-drawn}
 
@@ -25,7 +25,7 @@ before-is c = sym c.drawn-2.ensures
 
 pub returns-then-drawn : goal.returns-then-drawn
 returns-then-drawn c =
-    better-moved (omega (arith, c.next-after.ensures.upper_bound, c.count-n.ensures)) (after_is c.before ∙ c.if-drawn.true)
+    (omega (arith, c.next-after.ensures.upper_bound, c.count-n.ensures), after_is c.before ∙ c.if-drawn.true)
 
 -- the corner before, where it is known
 below : (c : After-previous-before) →
@@ -33,7 +33,7 @@ below : (c : After-previous-before) →
 below c = omega (arith, c.previous-before.ensures.0, c.count-n.ensures)
 
 pub returns-then-drawn-2 : goal.returns-then-drawn-2
-returns-then-drawn-2 c = better-moved (below c.before.before) (before-is c.before ∙ c.if-drawn-2.true)
+returns-then-drawn-2 c = (below c.before.before, before-is c.before ∙ c.if-drawn-2.true)
 
 -- the corner after does not draw
 after : (c : Else-drawn) → let args = c.args in

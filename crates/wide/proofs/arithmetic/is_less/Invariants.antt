@@ -4,6 +4,3 @@ use Rattle.wide.proofs.arithmetic.is_less.Given as goal
 
 abbrev pub invariant-loop-i : goal.invariant-loop-i
 invariant-loop-i l = (l.i ≤ length l.a) × (value (drop l.i l.a) ≡ value (drop l.i l.b))
-
-abbrev pub decreases-loop-i : goal.decreases-loop-i
-decreases-loop-i l = l.i

@@ -5,10 +5,11 @@ use Rattle.plane.specs.Floor.{Floored, on, Same}
 use Rattle.sums.specs.PlaceAfter.{is_place}
 use Rattle.parts.specs.Part.{ask_part}
 use Rattle.admission.specs.theory.Door.{shapes-refused}
+use Rattle.admission.specs.theory.Judged.{held, refusal-of, handed-on}
 use Rattle.part_questions.specs.Walk.{state_of}
 use Rattle.part_questions.specs.theory.Parts.{part-off-place, part-surveyed}
 use Rattle.part_questions.proofs.walk.Walk.part.Goals as goal
-use Rattle.part_questions.proofs.walk.Walk.part.Goals.{After-is_place, In_default, Start}
+use Rattle.part_questions.proofs.walk.Walk.part.Goals.{After-is_place, In_ok-admit_pair, Start}
 
 -- the two shapes
 abbrev one : Start → Floored
@@ -18,44 +19,45 @@ abbrev other : Start → Floored
 other c = on c.args.b.now c.args.g
 
 -- past the judging they are shapes on one floor
-shapes : (c : In_default) → Same (one (goal.at.In_default c).Start) (other (goal.at.In_default c).Start)
-shapes c = c.admit_pair.ensures.valid c.in_default.is
+shapes : (c : In_ok-admit_pair) → Same (one (goal.at.In_ok-admit_pair c).Start) (other (goal.at.In_ok-admit_pair c).Start)
+shapes c = held c.in_ok-admit_pair.ensures
 
 -- what the test of the walk says
 told : (c : After-is_place) {t : Bool} → c.is_place.result ≡ t → let args = c.args in
     is_place args.a.now args.b.now (state_of args.self) ≡ t
 told c e = sym c.is_place.ensures ∙ e
 
-pub returns-in-No : goal.returns-in-No
-returns-in-No c =
-    shapes-refused (ask_part (one (goal.at.returns-in-No c).Start) (other (goal.at.returns-in-No c).Start) (state_of c.args.self) c.args.k
-    c.args.out.now)
-    (c.admit_pair.ensures.no _ c.in-No.is)
+pub returns-in_err-admit_pair : goal.returns-in_err-admit_pair
+returns-in_err-admit_pair c =
+    let start = (goal.at.returns-in_err-admit_pair c).Start in
+    rw (handed-on _ _ c.from_residual.ensures.1)
+    (shapes-refused (ask_part (one start) (other start) (state_of c.args.self) c.args.k c.args.out.now)
+    (refusal-of c.in_err-admit_pair.ensures))
 
 pub is_place-requires : goal.is_place-requires
 is_place-requires c = let both = shapes c in (both.first-valid, both.second-valid)
 
 pub returns-then-not-is_place : goal.returns-then-not-is_place
 returns-then-not-is_place c =
-    part-off-place (one (goal.at.returns-then-not-is_place c).Start) (other (goal.at.returns-then-not-is_place c).Start)
-    (state_of c.args.self) c.args.k c.args.out.now
-    (shapes (goal.at.returns-then-not-is_place c).In_default) (told c.before (c.if-not-is_place.true))
+    let start = (goal.at.returns-then-not-is_place c).Start in
+    part-off-place (one start) (other start) (state_of c.args.self) c.args.k c.args.out.now (held c.in_ok-admit_pair.ensures)
+    (told c.before (c.if-not-is_place.true))
 
 pub survey-requires : goal.survey-requires
-survey-requires c = let both = shapes (goal.at.survey-requires c).In_default in (both.first-valid, both.second-valid)
+survey-requires c = let both = shapes (goal.at.survey-requires c).In_ok-admit_pair in (both.first-valid, both.second-valid)
 
-pub returns-in-No-survey : goal.returns-in-No-survey
-returns-in-No-survey c =
-    part-surveyed (one (goal.at.returns-in-No-survey c).Start) (other (goal.at.returns-in-No-survey c).Start) (state_of c.args.self)
-    c.args.k c.args.out.now
-    (shapes (goal.at.returns-in-No-survey c).In_default) (told (goal.at.returns-in-No-survey c).After-is_place (c.if-not-is_place.false))
-    (c.survey.ensures.no _ c.in-No-survey.is)
+pub returns-in_err-survey : goal.returns-in_err-survey
+returns-in_err-survey c =
+    let start = (goal.at.returns-in_err-survey c).Start in
+    rw (handed-on _ _ c.from_residual-in_err-survey.ensures.1)
+    (part-surveyed (one start) (other start) (state_of c.args.self) c.args.k c.args.out.now (held c.in_ok-admit_pair.ensures)
+    (told (goal.at.returns-in_err-survey c).After-is_place (c.if-not-is_place.false)) (refusal-of c.in_err-survey.ensures))
 
 pub write-requires : goal.write-requires
 write-requires c = (
-  shapes (goal.at.write-requires c).In_default,
+  held c.in_ok-admit_pair.ensures,
   told (goal.at.write-requires c).After-is_place (c.if-not-is_place.false),
-  c.survey.ensures.valid c.in_default-survey.is,
+  held c.in_ok-survey.ensures,
 )
 
 pub returns : goal.returns

@@ -1,8 +1,8 @@
 -- `write` meets its contract: nothing is to write, or there is no room, or the walk writes the part.
 use mathlib.Core.Path.{◌≡◌, sym, ◌∙◌, ap, subst}
-use mathlib.Core.Bool.{Bool, false}
+use mathlib.Core.Bool.{Bool, true, false}
 use mathlib.Core.List.{List}
-use mathlib.Core.Logic.{inl, inr}
+use mathlib.Core.Logic.{◌⊎◌, inl, inr}
 use Prim.Native.Nat.{◌*◌, ◌≤◌}
 use native.Mathlib.Omega.{arith}
 use lib.ListN.{length}
@@ -17,7 +17,8 @@ use Rattle.parts.proofs.theory.Parts.{part-remaining, part-advanced}
 use Rattle.part_questions.specs.Walk.{state_of}
 use Rattle.part_questions.specs.theory.Parts.{part-little-room, part-done, part-idle}
 use Rattle.part_questions.proofs.walk.Walk.write.Goals as goal
-use Rattle.part_questions.proofs.walk.Walk.write.Goals.{Else-not-has_room, Else-self, Start}
+use Rattle.part_questions.proofs.walk.Walk.write.Goals.{Else-not-has_room, Else-self, Start, then-self-via-then-self}
+use Rattle.part_questions.proofs.walk.Walk.write.Goals.{then-self-via-else-self+then-k-eq0}
 
 -- the two shapes
 abbrev one : Start → Floored
@@ -47,15 +48,15 @@ due c =
     ∙ sym (part-remaining args.a.now args.b.now c.requires.0.first-valid c.requires.0.second-valid (state_of self) args.k
     c.requires.1)
 
+-- it is over, or no corner is asked for: nothing is written
 pub returns-then-self : goal.returns-then-self
 returns-then-self c =
-    part-idle (one c.before) (other c.before) (state_of c.args.self) c.args.k c.args.out.now
-    c.requires.0 c.requires.1 c.requires.2 (inl c.if-self.true)
-
-pub returns-then-k-eq0 : goal.returns-then-k-eq0
-returns-then-k-eq0 c =
-    part-idle (one c.before.before) (other c.before.before) (state_of c.args.self) c.args.k c.args.out.now
-    c.requires.0 c.requires.1 c.requires.2 (inr c.if-k-eq0.true)
+    let start = (goal.at.returns-then-self c).Start in
+    let none : (c.args.self.over ≡ true) ⊎ (c.args.k ≡ 0) = elim c.then-self.branch [
+      | then-self-via-then-self w ↦ inl w.if-self.true
+      | then-self-via-else-self+then-k-eq0 w ↦ inr w.if-k-eq0.true
+    ] in
+    part-idle (one start) (other start) (state_of c.args.self) c.args.k c.args.out.now c.requires.0 c.requires.1 c.requires.2 none
 
 pub has_room-requires : goal.has_room-requires
 has_room-requires c = (standing c.before, omega (arith, c.if-k-eq0.false))

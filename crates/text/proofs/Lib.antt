@@ -1,0 +1,2 @@
+-- Lemmas on what a word stands for.
+mod Numeral

@@ -1,5 +1,0 @@
--- `are_calls` is safe and ends. The measure: the turns left.
-use Rattle.text.proofs.calls.are_calls.Given as goal
-
-abbrev pub decreases-loop-turns : goal.decreases-loop-turns
-decreases-loop-turns l = l.turns

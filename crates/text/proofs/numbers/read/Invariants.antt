@@ -1,5 +1,0 @@
--- `read` is safe and ends. The measure: the turns left.
-use Rattle.text.proofs.numbers.read.Given as goal
-
-abbrev pub decreases-loop-turns : goal.decreases-loop-turns
-decreases-loop-turns l = l.turns
