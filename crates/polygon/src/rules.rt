@@ -31,11 +31,15 @@ pub fn too_many_points(list: &[i32]) -> bool
     limits::exceeds_points(corners::count(list))
 }
 
-// Refusal 3: some coordinate is out of range.
+// Refusal 3: some coordinate is out of range. All are looked at, so that the loop has no second way out.
 pub fn some_outside(list: &[i32]) -> bool
     ensures { result ≡ some_outside list.now }
 {
-    list.iter().any(|z| limits::outside(*z))
+    let mut some = false;
+    for z in list {
+        some |= limits::outside(*z);
+    }
+    some
 }
 
 // Whether one of the two holds.
