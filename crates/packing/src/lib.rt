@@ -7,7 +7,7 @@ ghost use Rattle.std.specs.Prelude.{false, ◌≡◌, ◌≤◌, leb, length, ta
 ghost use Rattle.journal.specs.Format.{records as format_records};
 ghost use Rattle.journal.specs.Reading.{damaged};
 ghost use Rattle.journal.specs.Survey.{record_at, next_at, Sound};
-ghost use Rattle.journal.specs.Marks.{Marked, places_of};
+ghost use Rattle.journal.specs.Marks.{Marked};
 ghost use Rattle.journal.specs.Adding.{made};
 ghost use Rattle.packing.specs.Packing.{packed, mends_all};
 ghost use Rattle.packing.specs.Copying.{is_kept};
@@ -20,10 +20,11 @@ pub fn packed_length(old: &[u8], but: usize) -> usize
     requires { damaged (format_records old.now) ≡ false }
     ensures { result ≡ length (packed old.now but) }
 {
-    let table = Table::of(old);
+    let marked = Table::of(old);
+    let table = marked.as_slice();
     let mut n = 0;
     for p in places::all(old) {
-        if is_kept(old, p, but, &table) {
+        if is_kept(old, p, but, table) {
             n += records::next_at(old, p) - p;
         }
     }
@@ -39,11 +40,12 @@ pub fn pack(old: &[u8], new: &mut [u8], but: usize, allowed: usize) -> bool
         × (new.new
         ≡ made (take allowed (mends_all old.now but new.old)) new.old) }
 {
-    let table = Table::of(old);
+    let marked = Table::of(old);
+    let table = marked.as_slice();
     let mut need = 0;
     let mut q = 0;
     for p in places::all(old) {
-        if is_kept(old, p, but, &table) {
+        if is_kept(old, p, but, table) {
             let size = records::next_at(old, p) - p;
             need = copying::copy(old, p, size, new, q, need, allowed);
             q += size;
@@ -56,8 +58,8 @@ pub fn pack(old: &[u8], new: &mut [u8], but: usize, allowed: usize) -> bool
 // Whether the record at a place belongs to the packed log: it has another name than `but`, and no later record has its
 // name.
 // Ruled out: older record kept; only the name left out kept.
-fn is_kept(old: &[u8], p: usize, but: usize, table: &Table) -> bool
-    requires { Sound old.now p × Marked old.now (places_of table.now) p }
+fn is_kept(old: &[u8], p: usize, but: usize, table: &[u32]) -> bool
+    requires { Sound old.now p × Marked old.now table.now p }
     ensures { result ≡ is_kept but (record_at old.now p)
         (format_records (drop (next_at old.now p) old.now)) }
 {

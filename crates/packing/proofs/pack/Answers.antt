@@ -1,7 +1,7 @@
 -- `pack` meets its contract. The invariant: up to place p of the old log, the bytes before place q of the new run are done.
-use Rattle.std.specs.Prelude.{ℕ, ◌+◌, ◌-◌, ◌≤◌, length}
+use Rattle.std.specs.Prelude.{List, ℕ, ◌+◌, ◌-◌, ◌≤◌, length}
 use Rattle.std.proofs.Common.{sym, ◌∙◌, subst, arith}
-use Rattle.journal.specs.Marks.{Marked, places_of}
+use Rattle.journal.specs.Marks.{Marked}
 use Rattle.journal.proofs.theory.Survey.{next-inside}
 use Rattle.journal.proofs.theory.Stepping.{reached-sound}
 use Rattle.journal.proofs.theory.Marks.{marked_next}
@@ -21,7 +21,10 @@ room c =
 pub loop-p-init : goal.loop-p-init
 loop-p-init c =
     let pre = c.requires in
-    on-start c.into_iter-p-iterator.ensures.into_iter_gives c.all-p-items.ensures (packs-start _ _ _ _ pre.0 pre.1, c.of-table.ensures)
+    on-start c.into_iter-p-iterator.ensures.into_iter_gives c.all-p-items.ensures (
+      packs-start _ _ _ _ pre.0 pre.1,
+      subst (λ (t : List ℕ). Marked c.args.old.now t 0) (sym c.as_slice-table.ensures) c.of-marked.ensures,
+    )
 
 pub is_kept-requires : goal.is_kept-requires
 is_kept-requires c =
@@ -47,7 +50,7 @@ loop-p-preserved-then-is_kept c =
     let Done : ℕ → Type 0 =
     λ (p : ℕ). Packs args.allowed args.old.now args.new.now args.but p (c.loop-p.q + (c.next_at.result - c.in-Some.p)) c.copy-need.result
     c.copy-need.new.new in
-    on-next c.loop-p.invariant (λ (p : ℕ). Done p × Marked args.old.now (places_of c.of-table.result) p) steps (
+    on-next c.loop-p.invariant (λ (p : ℕ). Done p × Marked args.old.now c.as_slice-table.result.now p) steps (
       subst Done c.next_at.ensures
           (packs-copy it.1.0 it.0 (sym c.is_kept.ensures ∙ c.if-is_kept.true) c.next_at.ensures c.copy-need.ensures),
       marked_next it.1.1 it.0,
@@ -60,7 +63,7 @@ loop-p-preserved c =
     let it = on-here c.loop-p.invariant steps in
     on-next c.loop-p.invariant
     (λ (p : ℕ). Packs args.allowed args.old.now args.new.now args.but p c.loop-p.q c.loop-p.need c.loop-p.new
-    × Marked args.old.now (places_of c.of-table.result) p) steps
+    × Marked args.old.now c.as_slice-table.result.now p) steps
     (packs-skip it.1.0 it.0 (sym c.is_kept.ensures ∙ c.if-is_kept.false), marked_next it.1.1 it.0)
 
 pub blank-need-requires : goal.blank-need-requires

@@ -1,7 +1,7 @@
 -- `packed_length` meets its contract. The invariant: n bytes are kept up to p.
-use Rattle.std.specs.Prelude.{ℕ, ◌+◌, ◌-◌}
+use Rattle.std.specs.Prelude.{List, ℕ, ◌+◌, ◌-◌}
 use Rattle.std.proofs.Common.{refl, sym, ◌∙◌, subst, arith}
-use Rattle.journal.specs.Marks.{Marked, places_of}
+use Rattle.journal.specs.Marks.{Marked}
 use Rattle.journal.proofs.theory.Stepping.{reached-sound}
 use Rattle.journal.proofs.theory.Marks.{marked_next}
 use Rattle.journal.proofs.theory.Walk.{on-start, on-here, on-next, on-end}
@@ -10,7 +10,10 @@ use Rattle.packing.proofs.packed_length.Goals as goal
 
 pub loop-p-init : goal.loop-p-init
 loop-p-init c =
-    on-start c.into_iter-p-iterator.ensures.into_iter_gives c.all-p-items.ensures (measured-start _ _ c.requires, c.of-table.ensures)
+    on-start c.into_iter-p-iterator.ensures.into_iter_gives c.all-p-items.ensures (
+      measured-start _ _ c.requires,
+      subst (λ (t : List ℕ). Marked c.args.old.now t 0) (sym c.as_slice-table.ensures) c.of-marked.ensures,
+    )
 
 pub is_kept-requires : goal.is_kept-requires
 is_kept-requires c =
@@ -34,7 +37,7 @@ loop-p-preserved-then-is_kept c =
     let it = on-here c.loop-p.invariant steps in
     let count = c.loop-p.n + (c.next_at.result - c.in-Some.p) in
     on-next c.loop-p.invariant (λ (p : ℕ). Measured args.old.now args.but p count
-    × Marked args.old.now (places_of c.of-table.result) p) steps (
+    × Marked args.old.now c.as_slice-table.result.now p) steps (
       subst (λ (p : ℕ). Measured args.old.now args.but p count) c.next_at.ensures
           (measured-kept it.1.0 it.0 c.next_at.ensures (sym c.is_kept.ensures ∙ c.if-is_kept.true)),
       marked_next it.1.1 it.0,
@@ -46,7 +49,7 @@ loop-p-preserved c =
     let steps = c.in-Some.ensures.steps in
     let it = on-here c.loop-p.invariant steps in
     on-next c.loop-p.invariant (λ (p : ℕ). Measured args.old.now args.but p c.loop-p.n
-    × Marked args.old.now (places_of c.of-table.result) p) steps
+    × Marked args.old.now c.as_slice-table.result.now p) steps
     (measured-skipped it.1.0 it.0 refl (sym c.is_kept.ensures ∙ c.if-is_kept.false), marked_next it.1.1 it.0)
 
 pub returns : goal.returns
