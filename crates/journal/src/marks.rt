@@ -38,6 +38,7 @@ impl Table {
     }
 
     // Returns the places, for each value of a name's last ten bits; none if there is no table.
+    // Ruled out: half of the places lent.
     pub fn as_slice(&self) -> &[u32]
         ensures { result.now ≡ places_of self.now }
     {

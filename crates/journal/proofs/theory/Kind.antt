@@ -6,7 +6,8 @@
 --     floored-if, plain-if, fixed-floored  which tells the kind
 --     judged-valid, valid-judged           judging answers exactly if the list is a shape
 --     good→facts, facts→good               what a record is that is not bad
-use Rattle.std.specs.Prelude.{◌≡◌, Option, None, Some, IsSome, MatchOption, unwrap_or, Bool, ◌||◌, ◌⊎◌, List, ℕ, ◌-◌, ◌/◌, ◌%◌, ◌≤◌, ◌<◌, eqb, ltb, ℤ}
+use Rattle.std.specs.Prelude.{◌≡◌, Option, None, Some, IsSome, MatchOption, unwrap_or, Bool, ◌||◌, ◌⊎◌, List, ℕ, ◌-◌, ◌/◌, ◌%◌, ◌≤◌}
+use Rattle.std.specs.Prelude.{◌<◌, eqb, ltb, ℤ}
 use Rattle.std.proofs.Math.Path.{refl, ap, ap₂}
 use Rattle.std.proofs.Common.{sym, ◌∙◌, true≢false, inl, inr}
 use Rattle.std.proofs.Math.Bool.{true, false, not, cond}
