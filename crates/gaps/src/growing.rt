@@ -25,7 +25,8 @@ pub fn read_at(log: &[u8], p: usize, shape: &mut [i32]) -> usize
     head.count
 }
 
-// Writes them likewise, and returns the numbers themselves.
+// Writes the numbers of the record at a place to the front of a buffer for any shape, and returns them.
+// Ruled out: half of a shape returned.
 pub fn shape_at<'a>(log: &[u8], p: usize, buffer: &'a mut [i32; limits::SHAPE_NUMBERS]) -> &'a [i32]
     requires { Sound log.now p }
     ensures { result.now ≡ list (record_at log.now p) }
@@ -47,7 +48,9 @@ pub fn grow_at(log: &[u8], p: usize, cart: &[i32], shape: &mut [i32], out: &mut 
     differences::write(&shape[..n], cart, peak::top(cart), out)
 }
 
-// Writes it likewise, and returns the grown shape itself.
+// Writes the shape of the record at a place, grown by the cart, to the front of the output, and returns it. The first
+// buffer is for the shape as it is.
+// Ruled out: half of a grown shape returned.
 pub fn grown_at<'a>(
     log: &[u8],
     p: usize,
