@@ -33,7 +33,7 @@ pub fn packed_length(old: &[u8], but: usize) -> usize
 
 // Stores the packed log into a run that is long enough, and zeros after it: at most `allowed` stores, each where the
 // byte differs. Returns whether they were enough.
-// Ruled out: stale bytes left; cut called finished.
+// Ruled out: stale bytes left; blanked from the length of the old log; cut called finished.
 pub fn pack(old: &[u8], new: &mut [u8], but: usize, allowed: usize) -> bool
     requires { (damaged (format_records old.now) ≡ false) × (length (packed old.now but) ≤ length new.old) }
     ensures { (result ≡ leb (length (mends_all old.now but new.old)) allowed)
