@@ -33,4 +33,5 @@ returns-then-not-b-a c =
 
 pub returns-else-not-b-a : goal.returns-else-not-b-a
 returns-else-not-b-a c =
-    ap not c.if-not-b-a.false ∙ sym (precedes-above _ _ (lt_z-true c.if-not-b-a.false)) ∙ same (goal.at.returns-else-not-b-a c).After-struct_told-2-1
+    ap not c.if-not-b-a.false ∙ sym (precedes-above _ _ (lt_z-true c.if-not-b-a.false))
+    ∙ same (goal.at.returns-else-not-b-a c).After-struct_told-2-1
