@@ -20,7 +20,8 @@ pub fn packed_length(old: &[u8], but: usize) -> usize
     requires { damaged (format_records old.now) ≡ false }
     ensures { result ≡ length (packed old.now but) }
 {
-    let marked = Table::of(old);
+    let mut marked = Table::empty();
+    marked.fill(old);
     let table = marked.as_slice();
     let mut n = 0;
     for p in places::all(old) {
@@ -40,7 +41,8 @@ pub fn pack(old: &[u8], new: &mut [u8], but: usize, allowed: usize) -> bool
         × (new.new
         ≡ made (take allowed (mends_all old.now but new.old)) new.old) }
 {
-    let marked = Table::of(old);
+    let mut marked = Table::empty();
+    marked.fill(old);
     let table = marked.as_slice();
     let mut need = 0;
     let mut q = 0;

@@ -23,7 +23,7 @@ loop-p-init c =
     let pre = c.requires in
     on-start c.into_iter-p-iterator.ensures.into_iter_gives c.all-p-items.ensures (
       packs-start _ _ _ _ pre.0 pre.1,
-      subst (λ (t : List ℕ). Marked c.args.old.now t 0) (sym c.as_slice-table.ensures) c.of-marked.ensures,
+      subst (λ (t : List ℕ). Marked c.args.old.now t 0) (sym c.as_slice-table.ensures) c.fill.ensures,
     )
 
 pub is_kept-requires : goal.is_kept-requires

@@ -12,7 +12,7 @@ pub loop-p-init : goal.loop-p-init
 loop-p-init c =
     on-start c.into_iter-p-iterator.ensures.into_iter_gives c.all-p-items.ensures (
       measured-start _ _ c.requires,
-      subst (λ (t : List ℕ). Marked c.args.old.now t 0) (sym c.as_slice-table.ensures) c.of-marked.ensures,
+      subst (λ (t : List ℕ). Marked c.args.old.now t 0) (sym c.as_slice-table.ensures) c.fill.ensures,
     )
 
 pub is_kept-requires : goal.is_kept-requires
