@@ -45,7 +45,7 @@ pub fn add(out: &mut impl Write, told: &Reply, form: Form, list: &[i32]) -> io::
         Form::Numbers => values(out, told, 0),
         Form::Shape => {
             values(out, told, 0)?;
-            write!(out, " |")?;
+            out.write_all(b" |")?;
             output::numbers(out, front(list, first))
         }
         Form::Relation | Form::YesNo | Form::Direction | Form::Clearance => values(out, told, 1),
@@ -114,7 +114,7 @@ fn values(out: &mut impl Write, told: &Reply, from: usize) -> io::Result<()> {
     let count = told.count.min(9) as usize;
     if let Some((floor, values)) = told.values.get(from..count).unwrap_or(&[]).split_last() {
         for value in values {
-            write!(out, " {}", value.cast_signed())?;
+            output::signed(out, value.cast_signed())?;
         }
         write!(out, " @{floor}")?;
     }
