@@ -114,7 +114,7 @@ fn values(out: &mut impl Write, told: &Reply, from: usize) -> io::Result<()> {
     let count = told.count.min(9) as usize;
     if let Some((floor, values)) = told.values.get(from..count).unwrap_or(&[]).split_last() {
         for value in values {
-            output::signed(out, value.cast_signed())?;
+            write!(out, " {}", value.cast_signed())?;
         }
         write!(out, " @{floor}")?;
     }

@@ -40,22 +40,17 @@ impl<R: Read + Drop> Lines<R> {
 
     // Goes on to the next line that is to be answered, and returns whether there is one. Before anything is waited for,
     // the answers that `out` holds are written. If the input cannot be read, a part of a line is not answered. A proved
-    // loop has to end, so this one counts its turns up to a number that no run uses up.
+    // loop has to end, so this one counts its turns, one a chunk, up to a number that no run uses up.
     pub fn advance(&mut self, out: &mut impl Write) -> Result<bool, Failure> {
         self.line.begin();
         for _ in 0..u64::MAX {
-            if self.end <= self.at {
-                out.flush().map_err(Failure::Write)?;
-                self.read_chunk()?;
+            if self.take() {
+                return Ok(true);
             }
+            out.flush().map_err(Failure::Write)?;
+            self.read_chunk()?;
             if self.ended {
                 return Ok(!self.line.is_passed_over());
-            }
-            if self.take() {
-                if !self.line.is_passed_over() {
-                    return Ok(true);
-                }
-                self.line.begin();
             }
         }
         Ok(false)
@@ -81,20 +76,24 @@ impl<R: Read + Drop> Lines<R> {
         Ok(())
     }
 
-    // Takes what is left of the chunk, up to its first newline, and returns whether the line ends there.
+    // Takes what is left of the chunk, up to the end of the first line that is to be answered, and returns whether there
+    // is one.
     fn take(&mut self) -> bool {
-        let left = self.chunk.get(self.at..self.end).unwrap_or(&[]);
-        let found = left.iter().position(|byte| *byte == b'\n');
-        let count = found.unwrap_or(left.len());
-        let (piece, _) = left.split_at(count);
-        self.at = usize::saturating_add(self.at, count).saturating_add(1);
-        if !piece.is_empty() {
+        let mut left = self.chunk.get(self.at..self.end).unwrap_or(&[]);
+        while let Some(count) = left.iter().position(|byte| *byte == b'\n') {
+            let (piece, rest) = left.split_at(count);
+            left = rest.get(1..).unwrap_or(&[]);
             self.line.add(piece);
-        }
-        if found.is_some() {
             self.line.first = false;
+            if !self.line.is_passed_over() {
+                self.at = self.end.saturating_sub(left.len());
+                return true;
+            }
+            self.line.begin();
         }
-        found.is_some()
+        self.line.add(left);
+        self.at = self.end;
+        false
     }
 }
 
@@ -126,6 +125,9 @@ impl Line {
 
     // Adds a piece. An order mark at the start of the input is dropped as soon as it is whole.
     fn add(&mut self, piece: &[u8]) {
+        if piece.is_empty() {
+            return;
+        }
         let missing = ORDER_MARK.len().saturating_sub(self.held.len());
         if !self.first || missing == 0 {
             return self.append(piece);

@@ -74,17 +74,12 @@ impl<W: Write + Drop> Write for Gathered<W> {
 
 // Adds numbers, with a space before each.
 pub fn numbers(out: &mut impl Write, list: &[i32]) -> io::Result<()> {
+    let mut digits = Buffer::new();
     for number in list {
-        signed(out, i64::from(*number))?;
+        out.write_all(b" ")?;
+        out.write_all(digits.format(*number).as_bytes())?;
     }
     Ok(())
-}
-
-// Adds a space and a number.
-pub fn signed(out: &mut impl Write, number: i64) -> io::Result<()> {
-    let mut digits = Buffer::new();
-    out.write_all(b" ")?;
-    out.write_all(digits.format(number).as_bytes())
 }
 
 // Adds bytes, two hexadecimal digits each, in large letters.

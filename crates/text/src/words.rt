@@ -16,7 +16,7 @@ pub fn piece(line: &[u8], k: usize) -> &[u8] {
 }
 
 // Whether a byte separates the pieces of a line.
-pub fn is_bar(byte: &u8) -> bool {
+pub(crate) fn is_bar(byte: &u8) -> bool {
     *byte == BAR
 }
 
