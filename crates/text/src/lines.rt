@@ -76,8 +76,8 @@ impl<R: Read + Drop> Lines<R> {
         Ok(())
     }
 
-    // Takes what is left of the chunk, up to the end of the first line that is to be answered, and returns whether there
-    // is one.
+    // Takes what is left of the chunk, up to the end of the first line that is to be answered, and returns whether
+    // there is one.
     fn take(&mut self) -> bool {
         let mut left = self.chunk.get(self.at..self.end).unwrap_or(&[]);
         while let Some(count) = left.iter().position(|byte| *byte == b'\n') {
