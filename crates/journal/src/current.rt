@@ -16,8 +16,7 @@ pub fn entry(log: &[u8], k: usize) -> Option<Head>
     requires { damaged (records log.now) ≡ false }
     ensures { Entered log.now k result }
 {
-    let mut marked = Table::empty();
-    marked.fill(log);
+    let marked = Table::of(log);
     let table = marked.as_slice();
     let mut left = k;
     for p in places::all(log) {

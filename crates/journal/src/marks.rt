@@ -27,28 +27,13 @@ impl Table {
         requires { damaged (records log.now) ≡ false }
         ensures { Marked log.now (places_of result) 0 }
     {
-        let mut table = Table::empty();
-        table.fill(log);
-        table
-    }
-
-    // Returns a table without places.
-    // Ruled out: empty table with places.
-    pub fn empty() -> Table
-        ensures { places_of result ≡ [] }
-    {
-        Table { places: None }
-    }
-
-    // Makes a table without places the table of a log in which no record is bad. It is filled where it is, since one
-    // that is handed back is copied.
-    // Ruled out: table left unfilled.
-    pub fn fill(&mut self, log: &[u8])
-        requires { (damaged (records log.now) ≡ false) × (places_of self.old ≡ []) }
-        ensures { Marked log.now (places_of self.new) 0 }
-    {
-        if serves(log) {
-            mark(log, self.places.insert([0; PLACES]));
+        if !serves(log) {
+            return Table { places: None };
+        }
+        let mut places = [0u32; PLACES];
+        mark(log, &mut places);
+        Table {
+            places: Some(places),
         }
     }
 

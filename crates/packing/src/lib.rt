@@ -12,17 +12,27 @@ ghost use Rattle.journal.specs.Adding.{made};
 ghost use Rattle.packing.specs.Packing.{packed, mends_all};
 ghost use Rattle.packing.specs.Copying.{is_kept};
 
-use journal::marks::Table;
-use journal::{current, places, records};
+use journal::{current, marks, places, records};
 
 // Returns the count of bytes of the packed log.
 pub fn packed_length(old: &[u8], but: usize) -> usize
     requires { damaged (format_records old.now) ≡ false }
     ensures { result ≡ length (packed old.now but) }
 {
-    let mut marked = Table::empty();
-    marked.fill(old);
-    let table = marked.as_slice();
+    if marks::serves(old) {
+        let mut table = [0u32; marks::PLACES];
+        marks::mark(old, &mut table);
+        return measure(old, but, &table);
+    }
+    measure(old, but, &[])
+}
+
+// The same, with a table of the log's last places, or with an empty one. The table is lent: a `Table` handed back is
+// copied, and an empty one is cleared.
+fn measure(old: &[u8], but: usize, table: &[u32]) -> usize
+    requires { (damaged (format_records old.now) ≡ false) × Marked old.now table.now 0 }
+    ensures { result ≡ length (packed old.now but) }
+{
     let mut n = 0;
     for p in places::all(old) {
         if is_kept(old, p, but, table) {
@@ -41,9 +51,22 @@ pub fn pack(old: &[u8], new: &mut [u8], but: usize, allowed: usize) -> bool
         × (new.new
         ≡ made (take allowed (mends_all old.now but new.old)) new.old) }
 {
-    let mut marked = Table::empty();
-    marked.fill(old);
-    let table = marked.as_slice();
+    if marks::serves(old) {
+        let mut table = [0u32; marks::PLACES];
+        marks::mark(old, &mut table);
+        return store(old, new, but, allowed, &table);
+    }
+    store(old, new, but, allowed, &[])
+}
+
+// The same, with a table of the log's last places, or with an empty one.
+fn store(old: &[u8], new: &mut [u8], but: usize, allowed: usize, table: &[u32]) -> bool
+    requires { (damaged (format_records old.now) ≡ false) × (length (packed old.now but) ≤ length new.old)
+        × Marked old.now table.now 0 }
+    ensures { (result ≡ leb (length (mends_all old.now but new.old)) allowed)
+        × (new.new
+        ≡ made (take allowed (mends_all old.now but new.old)) new.old) }
+{
     let mut need = 0;
     let mut q = 0;
     for p in places::all(old) {

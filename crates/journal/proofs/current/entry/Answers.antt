@@ -12,7 +12,7 @@ pub loop-p-init : goal.loop-p-init
 loop-p-init c =
     on-start c.into_iter-p-iterator.ensures.into_iter_gives c.all-p-items.ensures (
       nth-start _ _ c.requires,
-      subst (λ (t : List ℕ). Marked c.args.log.now t 0) (sym c.as_slice-table.ensures) c.fill.ensures,
+      subst (λ (t : List ℕ). Marked c.args.log.now t 0) (sym c.as_slice-table.ensures) c.of-marked.ensures,
     )
 
 pub is_latest-requires : goal.is_latest-requires

@@ -1,7 +1,7 @@
 use Rattle.journal.specs.Marks.{Marked}
 use Rattle.journal.proofs.theory.Walk.{On}
 use Rattle.packing.specs.theory.Passes.{Packs}
-use Rattle.packing.proofs.pack.Given as goal
+use Rattle.packing.proofs.store.Given as goal
 
 abbrev pub invariant-loop-p : goal.invariant-loop-p
 invariant-loop-p l =
