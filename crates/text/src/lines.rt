@@ -82,8 +82,10 @@ impl<R: Read + Drop> Lines<R> {
         let mut left = self.chunk.get(self.at..self.end).unwrap_or(&[]);
         while let Some(count) = left.iter().position(|byte| *byte == b'\n') {
             let (piece, rest) = left.split_at(count);
-            left = rest.get(1..).unwrap_or(&[]);
-            self.line.add(piece);
+            left = &rest[1..];
+            if !piece.is_empty() {
+                self.line.add(piece);
+            }
             self.line.first = false;
             if !self.line.is_passed_over() {
                 self.at = self.end.saturating_sub(left.len());
@@ -125,9 +127,6 @@ impl Line {
 
     // Adds a piece. An order mark at the start of the input is dropped as soon as it is whole.
     fn add(&mut self, piece: &[u8]) {
-        if piece.is_empty() {
-            return;
-        }
         let missing = ORDER_MARK.len().saturating_sub(self.held.len());
         if !self.first || missing == 0 {
             return self.append(piece);
