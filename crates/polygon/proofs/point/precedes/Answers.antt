@@ -1,6 +1,5 @@
 -- `precedes` meets its contract: the two tests on y leave equal y.
-use mathlib.Core.Path.{◌≡◌, refl, sym, ◌∙◌, ap, ap₂}
-use mathlib.Core.Bool.{not}
+use mathlib.Core.Path.{◌≡◌, refl, sym, ◌∙◌, ap₂}
 use mir.Syntax.{w32}
 use mir.Val.{to_z, of_z}
 use Rattle.integer.specs.Machine.{result-is}
@@ -23,15 +22,11 @@ same c =
     (ap₂ point (result-is w32 c.struct_told-2-1.given.0.1 refl) (result-is w32 c.struct_told-2-1.given.1.0.1 refl))
 
 pub returns-then-a-b : goal.returns-then-a-b
-returns-then-a-b c =
-    c.if-a-b.true ∙ sym (precedes-below _ _ (lt_z-true c.if-a-b.true)) ∙ same (goal.at.returns-then-a-b c).After-struct_told-2-1
+returns-then-a-b c = sym (precedes-below _ _ (lt_z-true c.if-a-b.true)) ∙ same (goal.at.returns-then-a-b c).After-struct_told-2-1
 
-pub returns-then-not-b-a : goal.returns-then-not-b-a
-returns-then-not-b-a c =
-    sym (precedes-level _ _ (lt_z-false c.if-not-b-a.true) (lt_z-false c.if-a-b.false))
-    ∙ same (goal.at.returns-then-not-b-a c).After-struct_told-2-1
+pub returns-then-b-a : goal.returns-then-b-a
+returns-then-b-a c = sym (precedes-above _ _ (lt_z-true c.if-b-a.true)) ∙ same (goal.at.returns-then-b-a c).After-struct_told-2-1
 
-pub returns-else-not-b-a : goal.returns-else-not-b-a
-returns-else-not-b-a c =
-    ap not c.if-not-b-a.false ∙ sym (precedes-above _ _ (lt_z-true c.if-not-b-a.false))
-    ∙ same (goal.at.returns-else-not-b-a c).After-struct_told-2-1
+pub returns-else-b-a : goal.returns-else-b-a
+returns-else-b-a c =
+    sym (precedes-level _ _ (lt_z-false c.if-b-a.false) (lt_z-false c.if-a-b.false)) ∙ same (goal.at.returns-else-b-a c).After-struct_told-2-1
