@@ -29,4 +29,5 @@ returns-then-b-a c = sym (precedes-above _ _ (lt_z-true c.if-b-a.true)) ∙ same
 
 pub returns-else-b-a : goal.returns-else-b-a
 returns-else-b-a c =
-    sym (precedes-level _ _ (lt_z-false c.if-b-a.false) (lt_z-false c.if-a-b.false)) ∙ same (goal.at.returns-else-b-a c).After-struct_told-2-1
+    sym (precedes-level _ _ (lt_z-false c.if-b-a.false) (lt_z-false c.if-a-b.false))
+    ∙ same (goal.at.returns-else-b-a c).After-struct_told-2-1
