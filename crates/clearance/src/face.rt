@@ -84,7 +84,7 @@ pub fn place(list: &[i32], from: usize, i: usize) -> usize
 }
 
 // The face in a direction, the smaller position first.
-// Ruled out: ties the other way.
+// Ruled out: ties the other way; every face the other way.
 pub fn lowest(list: &[i32], n: Point) -> Face
     requires { Valid list.now × Small (2 ^ 22) (at n) × NonZero (at n) }
     ensures { IsFace (at n) (points list.now) result }

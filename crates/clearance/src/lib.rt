@@ -44,7 +44,7 @@ pub fn between(a: &[i32], b: &[i32]) -> Option<Distance>
 // differences finds the direction, which leaves one or two corners of each shape; of these the first that are reached.
 // The walk begins where i edges of the first shape and j of the mirror image of the second are passed, whose peak is at
 // position top.
-// Ruled out: only one edge of a parallel pair tried; rounded up.
+// Ruled out: only one edge of a parallel pair tried; first corner with last never tried; rounded up.
 fn found(a: &[i32], b: &[i32], top: usize, i: usize, j: usize) -> Distance
     requires { Valid a.now × Valid b.now × (apart (points a.now) (points b.now) ≡ true)
         × Peak (points b.now) top × Stood a.now (image b.now) i j }

@@ -50,11 +50,14 @@ impl Share {
         }
     }
 
-    // The later of two fractions, the first if they are equal. Nothing is before the start, so that 0 needs no product.
+    // The later of two fractions, the first if they are equal. Nothing is before the start, so that 0 needs no product:
+    // a test of its own, since together with the other both are made.
     pub fn later(self, other: Share) -> Share
         ensures { fraction result ≡ contact_later (fraction self) (fraction other) }
     {
-        if other.numerator != 0 && self.is_less(other) {
+        if other.numerator == 0 {
+            self
+        } else if self.is_less(other) {
             other
         } else {
             self

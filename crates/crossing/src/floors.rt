@@ -37,7 +37,7 @@ pub fn barred(list: &[i32]) -> Reply
 }
 
 // Returns the first list's refusal, else the second's, else 13.
-// Ruled out: thirteen for a bad second list.
+// Ruled out: thirteen for a bad second list; thirteen for a bad second list of three.
 pub fn barred_pair(a: &[i32], b: &[i32]) -> Reply
     ensures { numbers result ≡ crossed (low_floor_barred (shape_rows 1 a.now ++ shape_rows 2 b.now)) }
 {

@@ -63,7 +63,7 @@ fn look(
     kept(
         log,
         p,
-        meet(growing::read_at(log, p, buffer), cart, t, u),
+        meet(growing::shape_at(log, p, buffer), cart, t, u),
         best,
     )
 }

@@ -13,19 +13,45 @@ use journal::head;
 use polygon::{limits, peak};
 use separation::differences;
 
-// Writes the numbers of the record at a place to the front of a buffer, and returns them.
-pub fn read_at<'a>(log: &[u8], p: usize, buffer: &'a mut [i32; limits::SHAPE_NUMBERS]) -> &'a [i32]
+// Writes the numbers of the record at a place to the front of a buffer and returns how many they are.
+// Ruled out: corners counted in place of numbers.
+pub fn read_at(log: &[u8], p: usize, shape: &mut [i32]) -> usize
+    requires { Sound log.now p × (length shape.old ≡ 2 * max_corners) }
+    ensures { (take result shape.new ≡ list (record_at log.now p))
+        × (length shape.new ≡ 2 * max_corners) × (result ≡ length (list (record_at log.now p))) }
+{
+    let head = head::head_at(log, p);
+    endian::decode(log, head.place, head.count, shape);
+    head.count
+}
+
+// Writes the numbers of the record at a place to the front of a buffer for any shape, and returns them.
+// Ruled out: half of a shape returned.
+pub fn shape_at<'a>(log: &[u8], p: usize, buffer: &'a mut [i32; limits::SHAPE_NUMBERS]) -> &'a [i32]
     requires { Sound log.now p }
     ensures { result.now ≡ list (record_at log.now p) }
 {
-    let head = head::head_at(log, p);
-    endian::decode(log, head.place, head.count, buffer);
-    &buffer[..head.count]
+    let n = read_at(log, p, buffer);
+    &buffer[..n]
+}
+
+// Writes the shape of the record at a place, grown by the cart, to the front of the output, and returns how many
+// corners it has. The first buffer is for the shape as it is.
+// Ruled out: half of the grown corners told.
+pub fn grow_at(log: &[u8], p: usize, cart: &[i32], shape: &mut [i32], out: &mut [i32]) -> usize
+    requires { Sound log.now p × Valid cart.now × (length shape.old ≡ 2 * max_corners)
+        × (length out.old ≡ 2 * max_corners) × Fits (points cart.now) (record_at log.now p) }
+    ensures { Front (grown_of (points cart.now) (record_at log.now p)) result out.new
+        × (length shape.new ≡ 2 * max_corners) × (length out.new ≡ 2 * max_corners) }
+{
+    let n = read_at(log, p, shape);
+    differences::write(&shape[..n], cart, peak::top(cart), out)
 }
 
 // Writes the shape of the record at a place, grown by the cart, to the front of the output, and returns it. The first
 // buffer is for the shape as it is.
-pub fn grow_at<'a>(
+// Ruled out: half of a grown shape returned.
+pub fn grown_at<'a>(
     log: &[u8],
     p: usize,
     cart: &[i32],
@@ -35,6 +61,6 @@ pub fn grow_at<'a>(
     requires { Sound log.now p × Valid cart.now × Fits (points cart.now) (record_at log.now p) }
     ensures { Valid result.now × (points result.now ≡ grown_of (points cart.now) (record_at log.now p)) }
 {
-    let n = differences::write(read_at(log, p, buffer), cart, peak::top(cart), out);
+    let n = grow_at(log, p, cart, buffer, out);
     &out[..2 * n]
 }

@@ -64,7 +64,7 @@ fn from(
     if !floor::is_on(log, p, floor) {
         return best;
     }
-    let grown = growing::grow_at(log, p, cart, shape, above);
+    let grown = growing::grown_at(log, p, cart, shape, above);
     later(log, p, floor, cart, best, grown, shape, below)
 }
 
@@ -120,7 +120,7 @@ fn tried(
     if !floor::is_on(log, q, floor) {
         return best;
     }
-    let other = growing::grow_at(log, q, cart, shape, below);
+    let other = growing::grown_at(log, q, cart, shape, below);
     nearer(p, q, clearance::between(grown, other), best)
 }
 
@@ -143,7 +143,7 @@ fn is_passed(
     let Some(old) = best else {
         return false;
     };
-    spacing::is_far(reach, growing::read_at(log, q, shape), old.distance)
+    spacing::is_far(reach, growing::shape_at(log, q, shape), old.distance)
 }
 
 // The pair at p and q if it is nearer than what is kept, or nothing is; else what is kept.

@@ -46,7 +46,7 @@ fn admit_at(
     if head::head_at(log, p).floor != floor {
         return Ok(());
     }
-    let Err(refusal) = passage::admit_grown(growing::read_at(log, p, buffer), cart) else {
+    let Err(refusal) = passage::admit_grown(growing::shape_at(log, p, buffer), cart) else {
         return Ok(());
     };
     if current::is_current(log, p) {

@@ -3,11 +3,11 @@ ghost use Rattle.std.specs.Prelude.{false, not, ◌≡◌, drop};
 ghost use Rattle.journal.specs.Format.{records, name as format_name};
 ghost use Rattle.journal.specs.Reading.{damaged, held};
 ghost use Rattle.journal.specs.Survey.{record_at, next_at, Sound, Reached, Entered};
-ghost use Rattle.journal.specs.Marks.{Marked, places_of};
+ghost use Rattle.journal.specs.Marks.{Marked};
 
 use crate::head::Head;
 use crate::marks::Table;
-use crate::{head, places, records};
+use crate::{head, marks, places, records};
 
 // Returns what the current record at a position says, if there are as many. Positions count from 0, in the order of the
 // log.
@@ -16,10 +16,11 @@ pub fn entry(log: &[u8], k: usize) -> Option<Head>
     requires { damaged (records log.now) ≡ false }
     ensures { Entered log.now k result }
 {
-    let table = Table::of(log);
+    let marked = Table::of(log);
+    let table = marked.as_slice();
     let mut left = k;
     for p in places::all(log) {
-        if is_latest(log, p, &table) {
+        if is_latest(log, p, table) {
             if left == 0 {
                 return Some(head::head_at(log, p));
             }
@@ -32,15 +33,16 @@ pub fn entry(log: &[u8], k: usize) -> Option<Head>
 // Whether no later record has the name of the record at a place. A record at its place of the table, or after it, is
 // the last of its name, and one before a record of its name there is not. Others are looked up.
 // Ruled out: record before its place counted.
-pub fn is_latest(log: &[u8], p: usize, table: &Table) -> bool
-    requires { Sound log.now p × Marked log.now (places_of table.now) p }
+pub fn is_latest(log: &[u8], p: usize, table: &[u32]) -> bool
+    requires { Sound log.now p × Marked log.now table.now p }
     ensures { result ≡ not (held (format_name (record_at log.now p))
         (records (drop (next_at log.now p) log.now))) }
 {
     let name = endian::pair_at(log, p + 4);
-    let Some(last) = table.place(name) else {
+    let Some(&last) = table.get(name % marks::PLACES) else {
         return is_current(log, p);
     };
+    let last = last as usize;
     if last <= p {
         return true;
     }

@@ -18,12 +18,11 @@ pub fn head_at(log: &[u8], p: usize) -> Head
     requires { Sound log.now p }
     ensures { Stated log.now p result }
 {
-    let kind = records::kind_at(log, p);
-    let fixed = kind.fixed_bytes();
+    let fixed = records::kind_at(log, p).fixed_bytes();
     Head {
         place: p + (1 + fixed),
         count: (endian::pair_at(log, p) - fixed) / 4,
         name: endian::pair_at(log, p + 4) as u16,
-        floor: records::floor_at(log, p, kind),
+        floor: records::floor_at(log, p, fixed),
     }
 }

@@ -7,7 +7,7 @@ ghost use Rattle.journal.specs.Marks.{Marked, Placed, places_of};
 use crate::places;
 
 // How many places a table has: one for each value of a name's last ten bits.
-const PLACES: usize = 1024;
+pub const PLACES: usize = 1024;
 
 // If no record is after this place, a look ahead takes less time than a table.
 const SHORT: usize = 512;
@@ -37,6 +37,17 @@ impl Table {
         }
     }
 
+    // Returns the places, for each value of a name's last ten bits; none if there is no table.
+    // Ruled out: half of the places lent.
+    pub fn as_slice(&self) -> &[u32]
+        ensures { result.now ≡ places_of self.now }
+    {
+        match &self.places {
+            Some(places) => places,
+            None => &[],
+        }
+    }
+
     // Returns the place for a name: that of the last record whose name has the same last ten bits, if any has them.
     pub fn place(&self, name: usize) -> Option<usize>
         ensures { MatchOption result (places_of self.now ≡ []) (Placed (places_of self.now) (name % 1024)) }
@@ -47,7 +58,7 @@ impl Table {
 }
 
 // Whether a table serves a log: there are records enough, and a place has at most 32 bits.
-fn serves(log: &[u8]) -> bool
+pub fn serves(log: &[u8]) -> bool
     ensures { result ≡ true → length log.now < 4294967296 }
 {
     if LONG <= log.len() {
@@ -62,7 +73,7 @@ fn serves(log: &[u8]) -> bool
 }
 
 // Notes, for each value of a name's last ten bits, the place of the last record that has it.
-fn mark(log: &[u8], table: &mut [u32])
+pub fn mark(log: &[u8], table: &mut [u32])
     requires { (damaged (records log.now) ≡ false) × (length log.now < 4294967296)
         × (length table.old ≡ 1024) }
     ensures { Marked log.now table.new 0 }

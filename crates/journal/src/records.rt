@@ -1,7 +1,7 @@
 // Inner functions: the record at a place of a log.
 ghost use Rattle.std.specs.Prelude.{true, ◌≡◌, ◌+◌, ◌≤◌, length, take, drop};
 ghost use Rattle.journal.specs.Format.{size as format_size, kind as format_kind, floor};
-ghost use Rattle.journal.specs.Format.{whole, bad};
+ghost use Rattle.journal.specs.Format.{whole, bad, fixed_bytes};
 ghost use Rattle.journal.specs.Kind.{number};
 ghost use Rattle.journal.specs.Survey.{Legible, Ample, next_at, Sound};
 
@@ -66,14 +66,24 @@ pub fn kind_at(log: &[u8], p: usize) -> Kind
     Kind::from_number(endian::pair_at(log, p + 2)).unwrap()
 }
 
-// Returns the floor of the record at a place, which has the kind: 0 if it says none.
+// What the length counts besides the corners in a record of the kind that a number stands for; in one of another kind,
+// as many as in a record without a floor.
+// Ruled out: other kind read as one with a floor.
+pub fn fixed_bytes(kind: usize) -> usize
+    ensures { result ≡ fixed_bytes kind }
+{
+    Kind::from_number(kind).unwrap_or(Kind::Plain).fixed_bytes()
+}
+
+// Returns the floor of the record at a place: 0 if none of its `fixed` bytes, which its length counts besides the
+// corners, are a floor's.
 // Ruled out: kind 1 read as its own floor.
-pub fn floor_at(log: &[u8], p: usize, kind: Kind) -> u16
-    requires { Legible log.now p × (format_kind (drop p log.now) ≡ number kind) }
+pub fn floor_at(log: &[u8], p: usize, fixed: usize) -> u16
+    requires { Legible log.now p × (fixed ≡ fixed_bytes (format_kind (drop p log.now))) }
     ensures { result ≡ floor (drop p log.now) }
 {
-    match kind {
-        Kind::Plain => 0,
-        Kind::Floored => endian::pair_at(log, p + 6) as u16,
+    if fixed < Kind::Floored.fixed_bytes() {
+        return 0;
     }
+    endian::pair_at(log, p + 6) as u16
 }

@@ -11,7 +11,7 @@ use polygon::extent;
 use polygon::extent::Extent;
 
 // Returns whether the first distance is less than the second, as exact fractions. Equal ones are not less.
-// Ruled out: later shape on a tie; rounded distances compared.
+// Ruled out: later shape on a tie; rounded distances compared; all rounded distances compared.
 pub fn is_less(v: Option<Distance>, w: Option<Distance>) -> bool
     requires { Sized v × Sized w }
     ensures { result ≡ not (no_more (fraction_of w) (fraction_of v)) }

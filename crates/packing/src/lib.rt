@@ -7,23 +7,35 @@ ghost use Rattle.std.specs.Prelude.{false, ◌≡◌, ◌≤◌, leb, length, ta
 ghost use Rattle.journal.specs.Format.{records as format_records};
 ghost use Rattle.journal.specs.Reading.{damaged};
 ghost use Rattle.journal.specs.Survey.{record_at, next_at, Sound};
-ghost use Rattle.journal.specs.Marks.{Marked, places_of};
+ghost use Rattle.journal.specs.Marks.{Marked};
 ghost use Rattle.journal.specs.Adding.{made};
 ghost use Rattle.packing.specs.Packing.{packed, mends_all};
 ghost use Rattle.packing.specs.Copying.{is_kept};
 
-use journal::marks::Table;
-use journal::{current, places, records};
+use journal::{current, marks, places, records};
 
 // Returns the count of bytes of the packed log.
 pub fn packed_length(old: &[u8], but: usize) -> usize
     requires { damaged (format_records old.now) ≡ false }
     ensures { result ≡ length (packed old.now but) }
 {
-    let table = Table::of(old);
+    if marks::serves(old) {
+        let mut table = [0u32; marks::PLACES];
+        marks::mark(old, &mut table);
+        return measure(old, but, &table);
+    }
+    measure(old, but, &[])
+}
+
+// The same, with a table of the log's last places, or with an empty one. The table is lent: a `Table` handed back is
+// copied, and an empty one is cleared.
+fn measure(old: &[u8], but: usize, table: &[u32]) -> usize
+    requires { (damaged (format_records old.now) ≡ false) × Marked old.now table.now 0 }
+    ensures { result ≡ length (packed old.now but) }
+{
     let mut n = 0;
     for p in places::all(old) {
-        if is_kept(old, p, but, &table) {
+        if is_kept(old, p, but, table) {
             n += records::next_at(old, p) - p;
         }
     }
@@ -32,18 +44,33 @@ pub fn packed_length(old: &[u8], but: usize) -> usize
 
 // Stores the packed log into a run that is long enough, and zeros after it: at most `allowed` stores, each where the
 // byte differs. Returns whether they were enough.
-// Ruled out: stale bytes left; cut called finished.
+// Ruled out: stale bytes left; blanked from the length of the old log; cut called finished.
 pub fn pack(old: &[u8], new: &mut [u8], but: usize, allowed: usize) -> bool
     requires { (damaged (format_records old.now) ≡ false) × (length (packed old.now but) ≤ length new.old) }
     ensures { (result ≡ leb (length (mends_all old.now but new.old)) allowed)
         × (new.new
         ≡ made (take allowed (mends_all old.now but new.old)) new.old) }
 {
-    let table = Table::of(old);
+    if marks::serves(old) {
+        let mut table = [0u32; marks::PLACES];
+        marks::mark(old, &mut table);
+        return store(old, new, but, allowed, &table);
+    }
+    store(old, new, but, allowed, &[])
+}
+
+// The same, with a table of the log's last places, or with an empty one.
+fn store(old: &[u8], new: &mut [u8], but: usize, allowed: usize, table: &[u32]) -> bool
+    requires { (damaged (format_records old.now) ≡ false) × (length (packed old.now but) ≤ length new.old)
+        × Marked old.now table.now 0 }
+    ensures { (result ≡ leb (length (mends_all old.now but new.old)) allowed)
+        × (new.new
+        ≡ made (take allowed (mends_all old.now but new.old)) new.old) }
+{
     let mut need = 0;
     let mut q = 0;
     for p in places::all(old) {
-        if is_kept(old, p, but, &table) {
+        if is_kept(old, p, but, table) {
             let size = records::next_at(old, p) - p;
             need = copying::copy(old, p, size, new, q, need, allowed);
             q += size;
@@ -56,8 +83,8 @@ pub fn pack(old: &[u8], new: &mut [u8], but: usize, allowed: usize) -> bool
 // Whether the record at a place belongs to the packed log: it has another name than `but`, and no later record has its
 // name.
 // Ruled out: older record kept; only the name left out kept.
-fn is_kept(old: &[u8], p: usize, but: usize, table: &Table) -> bool
-    requires { Sound old.now p × Marked old.now (places_of table.now) p }
+fn is_kept(old: &[u8], p: usize, but: usize, table: &[u32]) -> bool
+    requires { Sound old.now p × Marked old.now table.now p }
     ensures { result ≡ is_kept but (record_at old.now p)
         (format_records (drop (next_at old.now p) old.now)) }
 {

@@ -59,9 +59,16 @@ pub fn squared(p: Point, q: Point) -> i64
     dot(d, d)
 }
 
-// Whether a has the smaller y, or the same y and the smaller x.
+// Whether a has the smaller y, or the same y and the smaller x. One test after the other, and no `||`: all tests are
+// then made at each corner of a chain, which takes up to twice as long.
 pub fn precedes(a: Point, b: Point) -> bool
     ensures { result ≡ shape_precedes (at a) (at b) }
 {
-    a.y < b.y || a.y == b.y && a.x < b.x
+    if a.y < b.y {
+        true
+    } else if b.y < a.y {
+        false
+    } else {
+        a.x < b.x
+    }
 }

@@ -57,7 +57,7 @@ fn ask_of_log(
 
 // Adds a log after a bar.
 fn add_log(out: &mut impl Write, log: &[u8]) -> io::Result<()> {
-    write!(out, " | ")?;
+    out.write_all(b" | ")?;
     output::bytes(out, log)
 }
 

@@ -39,13 +39,10 @@ fn has_arguments(rt: &impl Env) -> bool {
 }
 
 // Answers the lines of standard input on standard output.
-fn run(rt: &(impl Input + Print + AllocGlobal)) -> Result<(), Failure> {
-    let mut lines = Lines::new(rt.alloc(), rt.reader())?;
-    let mut out = output::gather(rt.alloc(), io::writer(rt))?;
-    let ended = answer_all(&mut lines, &mut out);
-    // What could not be written is not tried again.
-    let _ = out.into_parts();
-    ended
+fn run(rt: &(impl Input + Print)) -> Result<(), Failure> {
+    let mut lines = Lines::new(rt.reader());
+    let mut out = output::gather(io::writer(rt));
+    answer_all(&mut lines, &mut out)
 }
 
 // Answers every line. A proved loop has to end, so this one counts its turns, up to a number that no run uses up.
@@ -70,7 +67,7 @@ fn answer(
         Ok(asked) => ask::ask(out, asked.entry, &asked.fields)?,
         Err(reason) => write!(out, "{reason}")?,
     }
-    writeln!(out)
+    out.write_all(b"\n")
 }
 
 // What a line asks.

@@ -45,7 +45,7 @@ pub fn add(out: &mut impl Write, told: &Reply, form: Form, list: &[i32]) -> io::
         Form::Numbers => values(out, told, 0),
         Form::Shape => {
             values(out, told, 0)?;
-            write!(out, " |")?;
+            out.write_all(b" |")?;
             output::numbers(out, front(list, first))
         }
         Form::Relation | Form::YesNo | Form::Direction | Form::Clearance => values(out, told, 1),

@@ -41,7 +41,7 @@ fn next(
     let mut list = [0i32; SHAPE_NUMBERS];
     let lent = &mut list[..room.min(SHAPE_NUMBERS)];
     let part = walk.part(a.numbers, a.floor(), b.numbers, b.floor(), k, lent);
-    write!(out, " | ")?;
+    out.write_all(b" | ")?;
     replies::add(out, &reply::of(part), Form::Call, &list)?;
     Ok(part.map_or(walk, |part| part.answer.walk))
 }

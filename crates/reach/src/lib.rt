@@ -19,7 +19,8 @@ use polygon::{corners, peak, point};
 
 // The corner of the first shape and the corner of the second that are furthest apart, and their squared distance. Of
 // several such pairs: the smallest position in the first shape, then the smallest in the second.
-// Ruled out: later pair on a tie; nearer pair kept; later edge passed first.
+// Ruled out: later pair on a tie; later first corner on a tie; nearer pair kept; any nearer pair kept; later edge
+// passed first.
 pub fn furthest_corners(a: &[i32], b: &[i32]) -> Length
     requires { Valid a.now × Valid b.now }
     ensures { IsGreatest (points a.now) (points b.now) result }

@@ -79,7 +79,7 @@ impl Told for Part {
 }
 
 // The first and the last of the furthest corners, and their value, which may be below 0.
-// Ruled out: sign of a value lost.
+// Ruled out: sign of a value lost; size of a value told.
 impl Told for Face {
     ghost values = { face_values };
 

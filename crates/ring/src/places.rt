@@ -6,7 +6,7 @@ ghost use Rattle.ring.specs.Round.{optional, differing, distinct as round_distin
 ghost use Rattle.ring.specs.Ring.{least_place, walked};
 ghost use Rattle.ring.specs.Places.{Held};
 
-use polygon::{corners, rules};
+use polygon::{corners, point, rules};
 
 // Writes the positions of the ring's different neighbours to the front of a buffer, from a start on, and returns how
 // many they are. The first of several equal neighbours is kept.
@@ -68,15 +68,22 @@ fn same_at(list: &[i32], i: usize, j: usize) -> bool
     !corners::precedes_at(list, i, j) && !corners::precedes_at(list, j, i)
 }
 
-// Returns the first of the first n corners that no other precedes.
+// Returns the first of the first n corners that no other precedes. The lowest corner is kept beside its position: to
+// read it again at each turn would make every comparison wait for the one before.
 pub fn least(list: &[i32], n: usize) -> usize
     requires { n ≤ length (points list.now) }
     ensures { result ≡ least_place (corner (points list.now)) n }
 {
+    if n == 0 {
+        return 0;
+    }
     let mut best = 0;
-    for i in 0..n {
-        if corners::precedes_at(list, i, best) {
+    let mut lowest = corners::corner_at(list, 0);
+    for i in 1..n {
+        let p = corners::corner_at(list, i);
+        if point::precedes(p, lowest) {
             best = i;
+            lowest = p;
         }
     }
     best

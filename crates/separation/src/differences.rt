@@ -16,7 +16,8 @@ use polygon::extent::Extent;
 use polygon::{corners, extent};
 use sums::{size, walk};
 
-// Writes the shape at the front of the output, keeps all after it, and returns how many corners it has.
+// Writes the shape at the front of the output, keeps all after it, and returns how many corners it has. The walk may
+// write as many as there are: a limit that is no constant costs it a register.
 pub fn write(a: &[i32], b: &[i32], top: usize, out: &mut [i32]) -> usize
     requires { Valid a.now × Valid b.now × Peak (points b.now) top
         × (2 * length (shape_of (differences (points a.now) (points b.now))) ≤ length out.old) }
@@ -24,8 +25,7 @@ pub fn write(a: &[i32], b: &[i32], top: usize, out: &mut [i32]) -> usize
         × (out.new ≡ overwritten
         (numbers (shape_of (differences (points a.now) (points b.now)))) out.old) }
 {
-    let most = corners::count(a) + corners::count(b);
-    walk::walk_round(a, &Mirrored { list: b, top }, 0, 0, most, out).count
+    walk::walk_round(a, &Mirrored { list: b, top }, 0, 0, usize::MAX, out).count
 }
 
 // Returns the number of corners of the shape, which is to be written to an output of `room` numbers. Where the corners

@@ -113,7 +113,11 @@ fn word(log: &mut [u8], p: usize, z: i32, allowed: usize) -> usize
     requires { 3 + p < length log.old }
     ensures { Ran allowed (writes p (bytes_word z)) log.old result log.new }
 {
-    bytes(log, p, &z.to_le_bytes(), allowed)
+    let [a, b, c, d] = z.to_le_bytes();
+    let mut left = byte(log, p, a, allowed);
+    left = byte(log, p + 1, b, left);
+    left = byte(log, p + 2, c, left);
+    byte(log, p + 3, d, left)
 }
 
 // Stores a number in two bytes. How many stores are left.
@@ -121,19 +125,9 @@ fn pair(log: &mut [u8], p: usize, n: u16, allowed: usize) -> usize
     requires { 1 + p < length log.old }
     ensures { Ran allowed (writes p (bytes_pair n)) log.old result log.new }
 {
-    bytes(log, p, &n.to_le_bytes(), allowed)
-}
-
-// Stores bytes from a place on. How many stores are left.
-fn bytes(log: &mut [u8], p: usize, list: &[u8], allowed: usize) -> usize
-    requires { p + length list.now ≤ length log.old }
-    ensures { Ran allowed (writes p list.now) log.old result log.new }
-{
-    let mut left = allowed;
-    for (i, x) in list.iter().enumerate() {
-        left = byte(log, p + i, *x, left);
-    }
-    left
+    let [a, b] = n.to_le_bytes();
+    let left = byte(log, p, a, allowed);
+    byte(log, p + 1, b, left)
 }
 
 // Stores a byte if a store is left. How many are left then.

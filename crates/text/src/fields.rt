@@ -210,13 +210,15 @@ pub fn read<'a>(
     numbers: &'a mut Numbers,
 ) -> Result<Fields<'a>, Reason> {
     let kinds = kinds_of(kinds, words::count_bars(line))?;
-    let [first, second, third, fourth] = read_numbers(line, kinds, numbers)?;
+    let texts = texts(line);
+    let [first, second, third, fourth] = read_numbers(&texts, kinds, numbers)?;
     let numbers = numbers.as_slice();
+    let [one, two, three, four] = texts;
     let each = [
-        cut(line, kinds, numbers, 0, 0, first),
-        cut(line, kinds, numbers, 1, first, second),
-        cut(line, kinds, numbers, 2, second, third),
-        cut(line, kinds, numbers, 3, third, fourth),
+        cut(one, kinds, numbers, 0, 0, first),
+        cut(two, kinds, numbers, 1, first, second),
+        cut(three, kinds, numbers, 2, second, third),
+        cut(four, kinds, numbers, 3, third, fourth),
     ];
     for field in &each {
         field.check()?;
@@ -224,21 +226,31 @@ pub fn read<'a>(
     Ok(Fields { each })
 }
 
-// Returns field k of a line, whose numbers are those from a position up to another.
+// Returns the texts of the fields of a line. Those that it lacks are empty.
+fn texts(line: &[u8]) -> [&[u8]; FIELDS] {
+    let mut pieces = line.split(words::is_bar);
+    let _ = pieces.next();
+    [
+        pieces.next().unwrap_or(&[]),
+        pieces.next().unwrap_or(&[]),
+        pieces.next().unwrap_or(&[]),
+        pieces.next().unwrap_or(&[]),
+    ]
+}
+
+// Returns field k of a line, of a text, whose numbers are those from a position up to another.
 fn cut<'a>(
-    line: &'a [u8],
+    text: &'a [u8],
     kinds: &[Kind],
     numbers: &'a [i32],
     k: usize,
     from: usize,
     to: usize,
 ) -> Field<'a> {
-    let text = words::piece(line, k.saturating_add(1));
-    let numbers = numbers.get(from..to).unwrap_or(&[]);
     Field {
         kind: kinds.get(k).copied(),
         text,
-        numbers,
+        numbers: numbers.get(from..to).unwrap_or(&[]),
     }
 }
 
@@ -252,15 +264,15 @@ fn kinds_of(kinds: &[Kind], count: usize) -> Result<&[Kind], Reason> {
 
 // Reads the numbers of all fields, and returns how many there are up to the end of each.
 fn read_numbers(
-    line: &[u8],
+    texts: &[&[u8]; FIELDS],
     kinds: &[Kind],
     numbers: &mut Numbers,
 ) -> Result<[usize; FIELDS], Reason> {
     let mut ends = [0; FIELDS];
     numbers.clear();
     for (k, end) in ends.iter_mut().enumerate() {
-        if let Some(kind) = kinds.get(k) {
-            kind.read(words::piece(line, k + 1), numbers)?;
+        if let (Some(kind), Some(text)) = (kinds.get(k), texts.get(k)) {
+            kind.read(text, numbers)?;
         }
         *end = numbers.len();
     }

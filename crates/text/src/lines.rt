@@ -4,9 +4,7 @@ use crate::reasons::Reason;
 use crate::standard::{Failure, Patient};
 use crate::words;
 use arrayvec::ArrayVec;
-use std::alloc::Global;
-use std::io;
-use std::io::{BufRead, BufReader, Read, Write};
+use std::io::{Read, Write};
 
 // How many characters a line has, at most, and how many bytes are read at once.
 const CHARACTERS: usize = 65536;
@@ -17,45 +15,42 @@ const ORDER_MARK: &[u8] = b"\xef\xbb\xbf";
 // The lines of an input, and the one at hand.
 #[derive(Drop)]
 pub struct Lines<R> {
-    input: BufReader<Patient<R>>,
+    input: Patient<R>,
+    // What was read last. The bytes from `at` up to `end` are not yet taken.
+    chunk: [u8; CHARACTERS],
+    at: usize,
+    end: usize,
     // Whether nothing more is read.
     ended: bool,
-    // Whether the line at hand is the first.
-    first: bool,
-    line: ArrayVec<u8, CHARACTERS>,
-    // Whether the line has more characters.
-    too_long: bool,
+    line: Line,
 }
 
 impl<R: Read + Drop> Lines<R> {
     // Returns the lines of an input of which nothing is read yet.
-    pub fn new(alloc: Global, input: R) -> Result<Self, Failure> {
-        let input = BufReader::with_capacity(alloc, CHARACTERS, Patient(input));
-        Ok(Lines {
-            input: input.map_err(Failure::Read)?,
+    pub fn new(input: R) -> Self {
+        Lines {
+            input: Patient(input),
+            chunk: [0; CHARACTERS],
+            at: 0,
+            end: 0,
             ended: false,
-            first: true,
-            line: ArrayVec::new(),
-            too_long: false,
-        })
+            line: Line::new(),
+        }
     }
 
     // Goes on to the next line that is to be answered, and returns whether there is one. Before anything is waited for,
     // the answers that `out` holds are written. If the input cannot be read, a part of a line is not answered. A proved
-    // loop has to end, so this one counts its turns, one a byte, up to a number that no run uses up.
+    // loop has to end, so this one counts its turns, one a chunk, up to a number that no run uses up.
     pub fn advance(&mut self, out: &mut impl Write) -> Result<bool, Failure> {
-        self.begin();
+        self.line.begin();
         for _ in 0..u64::MAX {
-            match self.next_byte(out)? {
-                None => return Ok(!self.is_passed_over()),
-                Some(b'\n') => {
-                    self.first = false;
-                    if !self.is_passed_over() {
-                        return Ok(true);
-                    }
-                    self.begin();
-                }
-                Some(byte) => self.add(byte),
+            if self.take() {
+                return Ok(true);
+            }
+            out.flush().map_err(Failure::Write)?;
+            self.read_chunk()?;
+            if self.ended {
+                return Ok(!self.line.is_passed_over());
             }
         }
         Ok(false)
@@ -63,56 +58,103 @@ impl<R: Read + Drop> Lines<R> {
 
     // Returns the line at hand, without its newline, if it is not too long.
     pub fn text(&self) -> Result<&[u8], Reason> {
-        if self.too_long {
+        if self.line.too_long {
             Err(Reason::LineTooLong)
         } else {
-            Ok(self.line.as_slice())
+            Ok(self.line.held.as_slice())
+        }
+    }
+
+    // Reads the next chunk. Nothing is read after the end of the input.
+    fn read_chunk(&mut self) -> Result<(), Failure> {
+        self.at = 0;
+        self.end = 0;
+        if !self.ended {
+            self.end = self.input.read(&mut self.chunk).map_err(Failure::Read)?;
+            self.ended = self.end == 0;
+        }
+        Ok(())
+    }
+
+    // Takes what is left of the chunk, up to the end of the first line that is to be answered, and returns whether
+    // there is one.
+    fn take(&mut self) -> bool {
+        let mut left = self.chunk.get(self.at..self.end).unwrap_or(&[]);
+        while let Some(count) = left.iter().position(|byte| *byte == b'\n') {
+            let (piece, rest) = left.split_at(count);
+            left = &rest[1..];
+            if !piece.is_empty() {
+                self.line.add(piece);
+            }
+            self.line.first = false;
+            if !self.line.is_passed_over() {
+                self.at = self.end.saturating_sub(left.len());
+                return true;
+            }
+            self.line.begin();
+        }
+        self.line.add(left);
+        self.at = self.end;
+        false
+    }
+}
+
+// A line, or the part of it that was taken.
+#[derive(Drop)]
+struct Line {
+    held: ArrayVec<u8, CHARACTERS>,
+    // Whether it has more characters.
+    too_long: bool,
+    // Whether it is the first of the input.
+    first: bool,
+}
+
+impl Line {
+    // Returns the first line, with nothing in it.
+    fn new() -> Self {
+        Line {
+            held: ArrayVec::new(),
+            too_long: false,
+            first: true,
         }
     }
 
     // Begins a line.
     fn begin(&mut self) {
-        self.line.clear();
+        self.held.clear();
         self.too_long = false;
     }
 
-    // Returns the next byte of the input, or none at its end.
-    fn next_byte(&mut self, out: &mut impl Write) -> Result<Option<u8>, Failure> {
-        if self.input.buffer().is_empty() {
-            out.flush().map_err(Failure::Write)?;
+    // Adds a piece. An order mark at the start of the input is dropped as soon as it is whole.
+    fn add(&mut self, piece: &[u8]) {
+        let missing = ORDER_MARK.len().saturating_sub(self.held.len());
+        if !self.first || missing == 0 {
+            return self.append(piece);
         }
-        if self.ended {
-            return Ok(None);
+        let (start, rest) = piece.split_at(missing.min(piece.len()));
+        self.append(start);
+        if self.held.as_slice() == ORDER_MARK {
+            self.first = false;
+            self.held.clear();
         }
-        let byte = self
-            .input
-            .fill_buf()
-            .map_err(Failure::Read)?
-            .first()
-            .copied();
-        match byte {
-            Some(_) => self.input.consume(1),
-            None => self.ended = true,
-        }
-        Ok(byte)
+        self.append(rest);
     }
 
-    // Adds a byte to the line. A space that finds no room is dropped: all that can follow it is spaces, or something
-    // that finds no room itself.
-    fn add(&mut self, byte: u8) {
-        if self.line.try_push(byte).is_err() && !words::is_space(byte) {
+    // Adds a piece to what is held. A space that finds no room is dropped: all that can follow it is spaces, or
+    // something that finds no room itself.
+    fn append(&mut self, piece: &[u8]) {
+        let room = self.held.remaining_capacity();
+        let (kept, dropped) = piece.split_at(room.min(piece.len()));
+        let _ = self.held.try_extend_from_slice(kept);
+        if dropped.iter().any(|byte| !words::is_space(*byte)) {
             self.too_long = true;
-        }
-        if self.first && self.line.as_slice() == ORDER_MARK {
-            self.first = false;
-            self.line.clear();
         }
     }
 
     // Whether the line begins with # or has nothing but spaces. What is kept of a line that is too long may be spaces
     // alone.
     fn is_passed_over(&self) -> bool {
-        let line = self.line.as_slice();
+        let line = self.held.as_slice();
         line.starts_with(b"#") || !self.too_long && line.iter().all(|byte| words::is_space(*byte))
     }
 }

@@ -7,12 +7,17 @@ const BAR: u8 = b'|';
 
 // Returns how many bars a line has, and so how many fields.
 pub fn count_bars(line: &[u8]) -> usize {
-    line.iter().filter(|byte| **byte == BAR).count()
+    line.iter().filter(|byte| is_bar(byte)).count()
 }
 
 // Returns piece k of a line: piece 0 is before the first bar. It is empty if there is no such piece.
 pub fn piece(line: &[u8], k: usize) -> &[u8] {
-    line.split(|byte| *byte == BAR).nth(k).unwrap_or(&[])
+    line.split(is_bar).nth(k).unwrap_or(&[])
+}
+
+// Whether a byte separates the pieces of a line.
+pub(crate) fn is_bar(byte: &u8) -> bool {
+    *byte == BAR
 }
 
 // The words of a text that are still to come.

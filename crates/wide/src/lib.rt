@@ -10,7 +10,7 @@ ghost use Rattle.wide.specs.Root.{RoundedRoot};
 
 // Whether t1·t1/q1 is less than t2·t2/q2 as exact fractions, multiplied out, for numbers of any
 // size. Equal fractions are not less.
-// Ruled out: carry dropped; lowest word not compared.
+// Ruled out: carry dropped; carry lost from both words; lowest word not compared.
 pub fn fraction_less(t1: u64, q1: u64, t2: u64, q2: u64) -> bool
     ensures { result ≡ nat_lt (t1 * t1 * q2) (t2 * t2 * q1) }
 {

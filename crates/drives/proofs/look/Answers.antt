@@ -20,7 +20,7 @@ returns-then-head_at-floor c =
 pub meet-requires : goal.meet-requires
 meet-requires c =
     let pre = c.requires in
-    (subst Valid (sym c.read_at.ensures) (here-valid pre.1), pre.2, pre.3)
+    (subst Valid (sym c.shape_at.ensures) (here-valid pre.1), pre.2, pre.3)
 
 pub returns : goal.returns
 unfolding grown_of
@@ -30,6 +30,6 @@ returns c =
     let u = at args.u in
     let A = points args.cart.now in
     let m = c.meet.result in
-    let met = subst (λ (l : List ℤ). MetAs t u (grown (points l) A) m) c.read_at.ensures c.meet.ensures in
+    let met = subst (λ (l : List ℤ). MetAs t u (grown (points l) A) m) c.shape_at.ensures c.meet.ensures in
     subst (Onward A t u args.floor args.log.now args.p args.best) (sym c.kept.ensures)
     (onward-kept c.requires.0 c.requires.1 c.head_at.ensures t u args.best c.if-head_at-floor.false m met)

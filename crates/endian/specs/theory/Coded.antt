@@ -1,9 +1,9 @@
 -- Numbers written as bytes, and read, one by one.
 --     front-is, front_length     the front of an output that was overwritten, and how long it is
 --     word-bytes                 the four bytes of a number
---     word-stored                the four bytes of a number, copied to a place
+--     word-stored, word-copied   a number written as four bytes, one by one or side by side
 --     Encoded, encoded-start, -more, -length, -done     numbers written as bytes at the front of an output
-use Rattle.std.specs.Prelude.{◌≡◌, refl, List, [], ◌∷◌, ◌++◌, ℕ, ◌+◌, ◌*◌, ◌/◌, ◌%◌, ◌≤◌, ◌<◌, ℤ, pos, take, drop, get_or}
+use Rattle.std.specs.Prelude.{◌≡◌, refl, List, [], ◌∷◌, ◌++◌, ℕ, suc, ◌+◌, ◌*◌, ◌/◌, ◌%◌, ◌≤◌, ◌<◌, ℤ, pos, take, drop, get_or, set}
 use Rattle.std.proofs.Common.{sym, ◌∙◌, ap₂, arith, drop_at, drop-drop, length-take-le, SFits, of_z}
 use Rattle.std.proofs.Math.Path.{ap}
 use Rattle.std.proofs.Math.ListN.{length, length-append, length-drop}
@@ -37,10 +37,22 @@ word-bytes n small =
     let last : n / 16777216 % 256 ≡ n / 65536 / 256 % 256 = omega arith in
     λ t. first t ∷ second t ∷ (n / 65536 % 256) ∷ last t ∷ []
 
-pub word-stored : (z : ℤ) → SFits w32 z → (out bytes : List ℕ) (p k : ℕ) → bytes ≡ to_le_bytes w32 (of_z w32 z) → 4 ≡ k
+-- four stores in a row
+four : (out : List ℕ) (p : ℕ) {a b c d a' b' c' d' i j k : ℕ} → i ≡ suc p → j ≡ suc (suc p) → k ≡ suc (suc (suc p))
+    → a ≡ a' → b ≡ b' → c ≡ c' → d ≡ d' → set (set (set (set out p a) i b) j c) k d ≡ sets out p (a' ∷ b' ∷ c' ∷ d' ∷ [])
+four out p ei ej ek ea eb ec ed = λ t. set (set (set (set out p (ea t)) (ei t) (eb t)) (ej t) (ec t)) (ek t) (ed t)
+
+pub word-stored : (z : ℤ) → SFits w32 z → (n : ℕ) → n ≡ of_z w32 z → (out : List ℕ) (p : ℕ)
+    → set (set (set (set out p (n % 256)) (p + 1) (n / 256 % 256)) (p + 2) (n / 65536 % 256)) (p + 3) (n / 16777216) ≡ sets out p (word z)
+unfolding word pair
+word-stored z f n q out p =
+    let small = Fits-lt-pow (Fits-of_z f) in
+    four out p (omega arith) (omega arith) (omega arith) (omega (arith, q)) (omega (arith, q)) (omega (arith, q)) (omega (arith, q, small))
+
+pub word-copied : (z : ℤ) → SFits w32 z → (out bytes : List ℕ) (p k : ℕ) → bytes ≡ to_le_bytes w32 (of_z w32 z) → 4 ≡ k
     → p + 4 ≤ length out → put_mid p k out bytes ≡ sets out p (word z)
 unfolding word pair
-word-stored z f out bytes p k e long room =
+word-copied z f out bytes p k e long room =
     put_mid-paste p k out bytes (word z) 4 (e ∙ word-bytes _ (Fits-lt-pow (Fits-of_z f))) long refl ∙ sym (sets-eq (word z) out p room)
 
 -- i numbers of the list are at the front of the bytes, and all after them is as it was

@@ -1,7 +1,7 @@
 -- The records of a floor, as the code reads them.
 --     on-elsewhere, on-here      whether the record at a place is one of the floor's, by its head
 --     stated-few                 its numbers fit a buffer for any shape
---     read-list                  and are at its front once they are read
+--     read-list, read_length     and are at its front once they are read
 --     grown_of-shape, grown_of-valid, grown_of-few      the grown shape is one; if 6 and 7 pass, it fits such a buffer
 --     pair-gap, found_of         the gap of a pair is a fraction, and what was measured is it
 --     left_out                   boxes show that it is not nearer than what is kept
@@ -16,14 +16,14 @@ use Rattle.plane.specs.Point.{Point, points, numbers}
 use Rattle.plane.specs.Shape.{IsShape}
 use Rattle.plane.specs.Refusal.{Valid}
 use Rattle.plane.specs.Output.{overwritten}
-use Rattle.plane.proofs.theory.lists.Flat.{points-length, points-numbers}
+use Rattle.plane.proofs.theory.lists.Flat.{points-length, points-numbers, numbers-length}
 use Rattle.polygon.specs.declared.extent.Extent.{Extent}
 use Rattle.polygon.specs.Extent.{Extends}
 use Rattle.extents.specs.Far.{Spans, Reaches}
 use Rattle.extents.specs.theory.Gaps.{grown-spans}
 use Rattle.endian.specs.Bytes.{words_at}
 use Rattle.endian.specs.theory.Bytes.{words_at-length}
-use Rattle.endian.specs.theory.Coded.{front-is}
+use Rattle.endian.specs.theory.Coded.{front-is, front_length}
 use Rattle.plane.specs.Clearance.{clearance_numbers}
 use Rattle.clearance.specs.theory.Distance.{distance-whole}
 use Rattle.neighbours.specs.Spacing.{spacing_numbers}
@@ -88,6 +88,17 @@ module _ {b : List ℕ} {p : ℕ} {h : Head} (k : Sound b p) (s : Stated b p h) 
   module _ (old out : List ℤ) (e : out ≡ overwritten (words_at h.count b h.place) old) (room : length old ≡ 2 * max_corners) where
     pub read-list : take h.count out ≡ list (record_at b p)
     read-list = front-is (words_at h.count b h.place) old out e h.count (words_at-length b h.count h.place) ∙ sym s.list-is
+
+    pub read_length : length out ≡ 2 * max_corners
+    read_length = front_length (words_at h.count b h.place) old out e
+        (omega (arith, words_at-length b h.count h.place, stated-few, room)) ∙ room
+
+    pub read_count : h.count ≡ length (list (record_at b p))
+    read_count = sym count-is
+
+pub written-length : (ps : List Point) (old out : List ℤ) → out ≡ overwritten (numbers ps) old → 2 * length ps ≤ length old
+    → length out ≡ length old
+written-length ps old out e h = front_length (numbers ps) old out e (omega (arith, numbers-length ps, h))
 
 -- ---- the grown shape
 

@@ -1,16 +1,18 @@
 -- The kind of a record, and what it says of the record's length.
 --     known-kind, kind-some                which numbers stand for a kind
---     plain-bytes                          how many bytes a record of kind 1 has besides its corners
+--     plain-bytes, floored-bytes           how many bytes a record of kind 1 or 2 has besides its corners
+--     kind-bytes                           a record of another kind counts as one of kind 1
 --     fixed-least, fixed-most              how many bytes a record has besides its corners
 --     floored-if, plain-if, fixed-floored  which tells the kind
 --     judged-valid, valid-judged           judging answers exactly if the list is a shape
 --     good→facts, facts→good               what a record is that is not bad
-use Rattle.std.specs.Prelude.{◌≡◌, Option, None, Some, IsSome, MatchOption, Bool, ◌||◌, ◌⊎◌, List, ℕ, ◌-◌, ◌/◌, ◌%◌, ◌≤◌, ◌<◌, eqb, ltb, ℤ}
+use Rattle.std.specs.Prelude.{◌≡◌, Option, None, Some, IsSome, MatchOption, unwrap_or, Bool, ◌||◌, ◌⊎◌, List, ℕ, ◌-◌, ◌/◌, ◌%◌, ◌≤◌}
+use Rattle.std.specs.Prelude.{◌<◌, eqb, ltb, ℤ}
 use Rattle.std.proofs.Math.Path.{refl, ap, ap₂}
 use Rattle.std.proofs.Common.{sym, ◌∙◌, true≢false, inl, inr}
 use Rattle.std.proofs.Math.Bool.{true, false, not, cond}
 use native.Mathlib.Omega.{arith}
-use borrow.Author.Tests.{ltb-false, le-ltb, eqb-true, eq-eqb, not-false}
+use borrow.Author.Tests.{ltb-false, le-ltb, eqb-true, eq-eqb, not-true, not-false}
 use Rattle.plane.specs.Reply.{Reply, answered, refused}
 use Rattle.plane.specs.Refusal.{Valid}
 use Rattle.plane.specs.Floor.{on}
@@ -40,6 +42,16 @@ kind-some n (Some k) h known = refl
 pub plain-bytes : fixed_bytes 1 ≡ 5
 unfolding fixed_bytes
 plain-bytes = refl
+
+pub floored-bytes : fixed_bytes 2 ≡ 7
+unfolding fixed_bytes
+floored-bytes = refl
+
+pub kind-bytes : (n : ℕ) (o : Option Kind) → MatchOption o (other_kind n ≡ true) (λ k. n ≡ number k)
+    → fixed_bytes (number (unwrap_or o Plain)) ≡ fixed_bytes n
+unfolding fixed_bytes other_kind
+kind-bytes n None h = sym (ap (λ (t : Bool). cond t 7 5) (either-false (eqb n 1) (eqb n 2) (not-true _ h)).1)
+kind-bytes n (Some k) h = ap fixed_bytes (sym h)
 
 module _ (k : ℕ) where
   pub fixed-least : 5 ≤ fixed_bytes k

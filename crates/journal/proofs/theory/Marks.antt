@@ -1,12 +1,13 @@
 -- A table of where names come last, filled in one pass and used in another.
 --     Marking b t u p                  the table u is t after the records up to place p of b
 --     marking-start, -next, -end       the moves of the pass that fills it
+--     marked_empty                     a table without places says nothing
 --     marked_next                      what it says of the records from the next place on
 --     marked-none                      a record at its place, or after it, is the last of its name
 --     marked-held                      a record before its place is not, if it has the name of the record there
 use Rattle.std.specs.Prelude.{◌≡◌, refl, Bool, true, false, cond, ◌||◌, List, [], ◌∷◌, ℕ, zero, suc, ◌+◌, ◌%◌, ◌≤◌, ◌<◌, eqb, length}
 use Rattle.std.specs.Prelude.{get_or, set, drop}
-use Rattle.std.proofs.Common.{sym, ◌∙◌, ap, ap₂, subst, arith, eqb-true, eq-eqb, ne_eqb, length-set, get_or-set_same}
+use Rattle.std.proofs.Common.{sym, ◌∙◌, ap, ap₂, subst, not-suc-le-zero, arith, eqb-true, eq-eqb, ne_eqb, length-set, get_or-set_same}
 use Rattle.std.proofs.Common.{get_or-set_other}
 use Rattle.std.proofs.Math.Bool.{or-true}
 use Rattle.std.proofs.lemmas.Bool.{eqb-false}
@@ -85,6 +86,10 @@ module _ {b t u : List ℕ} {p : ℕ} (f : Marking b t u p) where
   }
 
 -- ---- using it
+
+-- a table without places
+pub marked_empty : (b : List ℕ) (p : ℕ) → Marked b [] p
+marked_empty b p h l = absurd (not-suc-le-zero l)
 
 -- the place is that of a record from p on
 pub record Later (b : List ℕ) (p last : ℕ) : Type 0 where

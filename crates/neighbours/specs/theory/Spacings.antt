@@ -1,11 +1,14 @@
 -- The distance of two shapes as the code holds it.
 --     ratio-less          ratios compare as the fractions that they are; `ratio-no_more`: and with others
+--     meets-ratio, corners-ratio, second-ratio, first-ratio      what the ratio is
+--     apart-numbers       what clearance answers, by whether the shapes are apart
 --     spacing-fraction    what clearance answers tells the distance; `spacing-sized`: and what it is divided by is not 0
 use Rattle.std.specs.Prelude.{◌≡◌, refl, Bool, true, false, not, cond, Option, Some, None, List, [], ◌∷◌, ℕ, ◌*◌, ◌<◌, ltb, ℤ, ◌*ℤ◌, ◌≤ℤ◌}
 use Rattle.std.specs.Prelude.{◌<ℤ◌}
 use Rattle.std.proofs.Common.{sym, ◌∙◌, subst, arith, ltb-true, ltb-false, le→leb, lt→ltb}
 use Rattle.std.proofs.Math.Path.{ap, ap₂}
 use Rattle.std.proofs.Math.IntN.{pos, nat_abs}
+use Rattle.integer.specs.Ring.{ring, reify}
 use Rattle.integer.specs.Linear.{linear, lia, ◌&◌}
 use Rattle.integer.specs.Order.{◌<×<◌, ◌<×≤◌, ◌≡×◌, contra≤, contra<, lt-lt_z, le_of_eq}
 use Rattle.integer.specs.Bound.{size-square}
@@ -82,6 +85,27 @@ sized-whole (Some (Distance.Corners i j d w)) h = record { lt = tt }
 sized-whole (Some (Distance.OnSecond c e t q w)) h = lt-pos 0 q h
 sized-whole (Some (Distance.OnFirst c e t q w)) h = lt-pos 0 q h
 
+-- two corners at n are at n·n/n, and a corner over an edge at t·t/q
+times-one : (x : ℤ) → x *ℤ pos 1 ≡ x
+times-one x = ring (x ∷ []) (search reify depth 40) tt
+
+module _ (d : Distance) (sized : ApartSized d) where
+  pub corners-ratio : (i j n w : ℕ) → d ≡ Distance.Corners i j n w → HasRatio (apart_fraction d) (record { turn = n; squared = n })
+  corners-ratio i j n w e = subst (λ (x : Distance). HasRatio (apart_fraction x) (record { turn = n; squared = n })) (sym e)
+      (record { some = subst ApartSized e sized; is = times-one (pos (n * n)) })
+
+  pub second-ratio : (c f t q w : ℕ) → d ≡ Distance.OnSecond c f t q w → HasRatio (apart_fraction d) (record { turn = t; squared = q })
+  second-ratio c f t q w e = subst (λ (x : Distance). HasRatio (apart_fraction x) (record { turn = t; squared = q })) (sym e)
+      (record { some = subst ApartSized e sized; is = refl })
+
+  pub first-ratio : (c f t q w : ℕ) → d ≡ Distance.OnFirst c f t q w → HasRatio (apart_fraction d) (record { turn = t; squared = q })
+  first-ratio c f t q w e = subst (λ (x : Distance). HasRatio (apart_fraction x) (record { turn = t; squared = q })) (sym e)
+      (record { some = subst ApartSized e sized; is = refl })
+
+pub meets-ratio : {w : Option Distance} → w ≡ None → HasRatio (fraction_of w) (record { turn = 0; squared = 1 })
+meets-ratio e = subst (λ (x : Option Distance). HasRatio (fraction_of x) (record { turn = 0; squared = 1 })) (sym e)
+    (record { some = omega arith; is = refl })
+
 -- ---- what clearance answers
 
 -- an answer's first number is not another's
@@ -91,6 +115,9 @@ other-kind m n e k = absurd (k (cc e))
 module _ (A B : List Point) where
   abbrev told : Bool → List ℤ
   told t = cond t (numbers_of A B (nearest A B)) (pos 0 ∷ [])
+
+  pub apart-numbers : {t : Bool} → apart A B ≡ t → told t ≡ clearance_numbers A B
+  apart-numbers e = ap told (sym e)
 
   -- the candidate's fraction
   apart-fraction : (d : Distance) (c : Candidate) → values_of d ≡ numbers_of A B c → apart_fraction d ≡ over (top A B c) (bottom A B c)

@@ -28,15 +28,15 @@ returns-then-not-is_on c =
     subst (λ (ps : List Pair). Passed (points args.cart.now) args.log.now ps args.best args.best)
     (pairs-are (goal.at.returns-then-not-is_on c).Start off) (passed_none _ _ _ c.requires.3)
 
-pub grow_at-grown-requires : goal.grow_at-grown-requires
-grow_at-grown-requires c =
+pub grown_at-grown-requires : goal.grown_at-grown-requires
+grown_at-grown-requires c =
     let pre = c.requires in
-    (pre.1, pre.2, walk-fits _ pre.0 pre.1.here (is-on (goal.at.grow_at-grown-requires c).Else-not-is_on))
+    (pre.1, pre.2, walk-fits _ pre.0 pre.1.here (is-on (goal.at.grown_at-grown-requires c).Else-not-is_on))
 
 pub later-requires : goal.later-requires
 later-requires c =
     let pre = c.requires in
-    (pre.0, pre.1, pre.2, pre.3, c.grow_at-grown.ensures.0, c.grow_at-grown.ensures.1)
+    (pre.0, pre.1, pre.2, pre.3, c.grown_at-grown.ensures.0, c.grown_at-grown.ensures.1)
 
 pub returns : goal.returns
 returns c =

@@ -18,13 +18,13 @@ returns-then-head_at-floor c =
 pub returns-in_default : goal.returns-in_default
 returns-in_default c = λ k. absurd (true≢false (sym k))
 
-pub read_at-requires : goal.read_at-requires
-read_at-requires c = c.requires.0
+pub shape_at-requires : goal.shape_at-requires
+shape_at-requires c = c.requires.0
 
 pub is_far-requires : goal.is_far-requires
 is_far-requires c =
     let pre = c.requires in
-    (pre.2, subst Valid (sym c.read_at.ensures) (here-valid pre.0), subst KeptSized c.in-Some.is pre.1)
+    (pre.2, subst Valid (sym c.shape_at.ensures) (here-valid pre.0), subst KeptSized c.in-Some.is pre.1)
 
 pub returns : goal.returns
 returns c =
@@ -32,4 +32,4 @@ returns c =
     let r = record_at args.log.now args.q in
     let valid = here-valid c.requires.0 in
     λ k on A G a s x. ap (is_nearer (distance G (grown_of A r))) c.in-Some.is
-    ∙ ap not (c.is_far.ensures k G (grown_of A r) s (grown_of-shape A r valid a) (grown_of-spans A r valid a x c.read_at.ensures))
+    ∙ ap not (c.is_far.ensures k G (grown_of A r) s (grown_of-shape A r valid a) (grown_of-spans A r valid a x c.shape_at.ensures))

@@ -45,13 +45,13 @@ returns-then-not-is_on c =
 is-on : (c : Else-not-is_on) → let args = c.args in is_on args.floor args.log.now args.q ≡ true
 is-on c = sym c.is_on.ensures ∙ c.if-not-is_on.false
 
-pub grow_at-other-requires : goal.grow_at-other-requires
-grow_at-other-requires c =
+pub grown_at-other-requires : goal.grown_at-other-requires
+grown_at-other-requires c =
     let pre = c.requires in
-    (pre.2, pre.3, walk-fits _ pre.0 pre.2.here (is-on (goal.at.grow_at-other-requires c).Else-not-is_on))
+    (pre.2, pre.3, walk-fits _ pre.0 pre.2.here (is-on (goal.at.grown_at-other-requires c).Else-not-is_on))
 
 pub between-requires : goal.between-requires
-between-requires c = (c.requires.5, c.grow_at-other.ensures.0)
+between-requires c = (c.requires.5, c.grown_at-other.ensures.0)
 
 -- how far apart the two are
 found : (c : After-between) → let args = c.args in
@@ -59,7 +59,7 @@ found : (c : After-between) → let args = c.args in
 found c =
     let pre = c.requires in
     found_of _ _ _ _ pre.3.shape.some pre.1 pre.2 c.between.result
-    (spaced-numbers _ _ c.between.result c.between.ensures ∙ ap₂ clearance_numbers pre.6 c.grow_at-other.ensures.1)
+    (spaced-numbers _ _ c.between.result c.between.ensures ∙ ap₂ clearance_numbers pre.6 c.grown_at-other.ensures.1)
 
 pub nearer-requires : goal.nearer-requires
 nearer-requires c =

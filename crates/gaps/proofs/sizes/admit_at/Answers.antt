@@ -38,7 +38,7 @@ judged : (c : After-admit_grown) →
     Judged (NoneApply (rows (goal.at.After-admit_grown c).Start)) (rows (goal.at.After-admit_grown c).Start) c.admit_grown.result
 unfolding grown_of
 judged c =
-    judged-by (ap (λ (l : List ℤ). size_rows (grown (points l) (points c.args.cart.now))) c.read_at.ensures)
+    judged-by (ap (λ (l : List ℤ). size_rows (grown (points l) (points c.args.cart.now))) c.shape_at.ensures)
     c.admit_grown.ensures
 
 -- whether it is the latest of its name is whether it is on the floor
@@ -56,7 +56,7 @@ returns-then-head_at-floor c =
 pub admit_grown-requires : goal.admit_grown-requires
 admit_grown-requires c =
     let pre = c.requires in
-    (subst Valid (sym c.read_at.ensures) (here-valid pre.0), pre.1)
+    (subst Valid (sym c.shape_at.ensures) (here-valid pre.0), pre.1)
 
 pub returns-in_default : goal.returns-in_default
 returns-in_default c =

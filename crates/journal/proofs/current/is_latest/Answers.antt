@@ -20,13 +20,13 @@ name-read c = name-here c.requires.0 ∙ name-at _ _ ∙ sym c.pair_at-name.ensu
 -- a record is at that place, and it comes later
 later : (c : Else-last-p) →
     let args = c.args in
-    Later args.log.now (next_at args.log.now args.p) c.in-Some.last
+    Later args.log.now (next_at args.log.now args.p) c.in-Some.field-0.now
 later c =
     let args = c.args in
-    let place = c.in-Some.ensures in
-    subst (Later args.log.now (next_at args.log.now args.p)) place.1
+    let place = c.in-Some.ensures.lookup.3 in
+    subst (Later args.log.now (next_at args.log.now args.p)) (sym (place.1 0))
     (marked-held c.requires.1 c.requires.0 (name-read (goal.at.Else-last-p c).After-pair_at-name) place.0
-    (omega (arith, c.if-last-p.false, place.1)))
+    (omega (arith, c.if-last-p.false, place.1 0)))
 
 pub overflow_add-p : goal.overflow_add-p
 overflow_add-p c = omega (arith, name-inside c.requires.0)
@@ -38,9 +38,10 @@ pub returns-then-last-p : goal.returns-then-last-p
 returns-then-last-p c =
     let log = c.args.log.now in
     let read = name-read (goal.at.returns-then-last-p c).After-pair_at-name in
+    let place = c.in-Some.ensures.lookup.3 in
     sym (ap (λ (n : ℕ). not (held n (records (drop (next_at log c.args.p) log)))) read
-    ∙ ap not (marked-none c.requires.1 c.requires.0 read c.in-Some.ensures.0
-    (omega (arith, c.if-last-p.true, c.in-Some.ensures.1))))
+    ∙ ap not (marked-none c.requires.1 c.requires.0 read place.0
+    (omega (arith, c.if-last-p.true, place.1 0))))
 
 pub overflow_add-last : goal.overflow_add-last
 overflow_add-last c = omega (arith, name-inside (later c).sound)

@@ -11,7 +11,7 @@ use Rattle.journal.proofs.head.head_at.Goals.{After-fixed_bytes-fixed, After-pai
 
 fixed-read : (c : After-fixed_bytes-fixed) → let args = c.args in
     fixed_bytes (kind (drop args.p args.log.now)) ≡ c.fixed_bytes-fixed.result
-fixed-read c = ap fixed_bytes c.kind_at-kind.ensures ∙ sym c.fixed_bytes-fixed.ensures
+fixed-read c = ap fixed_bytes c.kind_at.ensures ∙ sym c.fixed_bytes-fixed.ensures
 
 size-read : (c : After-pair_at) → let args = c.args in
     size (drop args.p args.log.now) ≡ c.pair_at.result
@@ -38,7 +38,8 @@ pub pair_at-requires-2 : goal.pair_at-requires-2
 pair_at-requires-2 c = omega (arith, name-inside c.requires)
 
 pub floor_at-requires : goal.floor_at-requires
-floor_at-requires c = (legible c.requires, c.kind_at-kind.ensures)
+floor_at-requires c =
+    (legible c.requires, sym (fixed-read (goal.at.floor_at-requires c).After-fixed_bytes-fixed))
 
 pub returns : goal.returns
 returns c =

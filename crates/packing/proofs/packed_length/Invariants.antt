@@ -1,7 +1,0 @@
-use Rattle.journal.specs.Marks.{Marked, places_of}
-use Rattle.journal.proofs.theory.Walk.{On}
-use Rattle.packing.specs.theory.Passes.{Measured}
-use Rattle.packing.proofs.packed_length.Given as goal
-
-abbrev pub invariant-loop-p : goal.invariant-loop-p
-invariant-loop-p l = On l.old (λ p. Measured l.old l.but p l.n × Marked l.old (places_of l.table) p) l.p-iterator

@@ -1,7 +1,0 @@
-use Rattle.std.specs.Prelude.{take}
-use Rattle.journal.specs.Adding.{writes}
-use Rattle.journal.specs.Allowance.{Ran}
-use Rattle.storing.proofs.bytes.Given as goal
-
-abbrev pub invariant-loop-i : goal.invariant-loop-i
-invariant-loop-i l = Ran l.allowed (writes l.p (take l.i l.list)) l.initial.log l.left l.log
