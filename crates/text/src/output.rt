@@ -20,7 +20,7 @@ const PAIRS: usize = 64;
 // The hexadecimal digits.
 const DIGITS: &[u8; 16] = b"0123456789ABCDEF";
 
-// A writer that gathers what is written to another. What could not be written is not tried again when this ends.
+// A writer that gathers what is written to another. What it holds when it ends is not written: `flush` writes it.
 #[derive(Drop)]
 pub struct Gathered<W> {
     writer: Patient<W>,
