@@ -41,7 +41,7 @@ fn has_arguments(rt: &impl Env) -> bool {
 // Answers the lines of standard input on standard output.
 fn run(rt: &(impl Input + Print)) -> Result<(), Failure> {
     let mut lines = Lines::new(rt.reader());
-    let mut out = output::gather(io::writer(rt));
+    let mut out = output::gather_inline(io::writer(rt));
     answer_all(&mut lines, &mut out)
 }
 

@@ -1,9 +1,13 @@
 // Text for standard output, which is gathered and written when there is much of it, or when it is flushed.
-use crate::standard::Patient;
+ghost use Rattle.std.specs.Prelude.{◌≡◌, [], IfOk};
+ghost use Rattle.std.specs.Io.Buffered.{writer_buffer, writer_capacity};
+
+use crate::standard::{Failure, Patient};
 use arrayvec::ArrayVec;
 use itoa::Buffer;
+use std::alloc::Global;
 use std::io;
-use std::io::Write;
+use std::io::{BufWriter, Write};
 
 // How many bytes are written at once.
 const SIZE: usize = 65536;
@@ -16,15 +20,24 @@ const PAIRS: usize = 64;
 // The hexadecimal digits.
 const DIGITS: &[u8; 16] = b"0123456789ABCDEF";
 
-// A writer that gathers what is written to another. What could not be written is not tried again when this ends.
+// A writer that gathers what is written to another. What it holds when it ends is not written: `flush` writes it.
 #[derive(Drop)]
 pub struct Gathered<W> {
     writer: Patient<W>,
     held: ArrayVec<u8, SIZE>,
 }
 
-// Returns a writer that gathers what is written to another.
-pub fn gather<W: Write + Drop>(writer: W) -> Gathered<W> {
+// Returns a writer that gathers what is written to another, in a buffer that it allocates. When it is dropped it writes
+// what it holds, if that can be written.
+// Ruled out: half as much gathered.
+pub fn gather<W: Write + Drop>(alloc: Global, writer: W) -> Result<BufWriter<Patient<W>>, Failure>
+    ensures { IfOk result (λ w. (writer_buffer w ≡ []) × (writer_capacity w ≡ 65536)) }
+{
+    BufWriter::with_capacity(alloc, SIZE, Patient(writer)).map_err(Failure::Write)
+}
+
+// Returns a writer that gathers what is written to another, and holds it itself.
+pub fn gather_inline<W: Write + Drop>(writer: W) -> Gathered<W> {
     Gathered {
         writer: Patient(writer),
         held: ArrayVec::new(),
@@ -98,4 +111,21 @@ pub fn bytes(out: &mut impl Write, bytes: &[u8]) -> io::Result<()> {
 fn pair(byte: u8) -> [u8; 2] {
     let (high, low) = (byte / 16, byte % 16);
     [DIGITS[high as usize], DIGITS[low as usize]]
+}
+
+#[cfg(test)]
+mod tests {
+    use super::*;
+    use std::test::Fail;
+
+    #[test]
+    fn writes_when_it_is_flushed(rt: HostRuntime) -> Result<(), Fail> {
+        let mut out = gather(rt.alloc(), Vec::new(rt.alloc()))?;
+        numbers(&mut out, &[3, -70])?;
+        bytes(&mut out, &[0x0A, 0xFF])?;
+        assert_eq!(rt; out.get_ref().0.len(), 0);
+        out.flush()?;
+        assert_eq!(rt; out.get_ref().0.as_slice(), b" 3 -700AFF".as_slice());
+        Ok(())
+    }
 }
